@@ -1,0 +1,60 @@
+ghost use mathlib.Core.Path.{_≡_};
+ghost use Rattle.lang.specs.Values.{kindOf, slotOf, valueIn};
+
+// The two kinds of value.
+#[derive(Clone, Copy, PartialEq, Eq, Debug)]
+pub enum Kind {
+    Number,
+    Truth,
+}
+
+// What an expression is worth.
+#[derive(Clone, Copy, PartialEq, Eq, Debug)]
+pub enum Value {
+    Number(i32),
+    Truth(bool),
+}
+
+// What a slot of a frame holds.
+#[derive(Clone, Copy, PartialEq, Eq, Debug)]
+pub enum Slot {
+    Unset,
+    Number(i32),
+    Truth(bool),
+    Position(u16),
+}
+
+impl Value {
+    pub fn kind(self) -> Kind
+        ensures { λ r. ⌜ r ≡ kindOf self ⌝ }
+    {
+        match self {
+            Value::Number(_) => Kind::Number,
+            Value::Truth(_) => Kind::Truth,
+        }
+    }
+
+    // The slot that holds this value.
+    pub fn slot(self) -> Slot
+        ensures { λ r. ⌜ r ≡ slotOf self ⌝ }
+    {
+        match self {
+            Value::Number(z) => Slot::Number(z),
+            Value::Truth(b) => Slot::Truth(b),
+        }
+    }
+}
+
+impl Slot {
+    // The value that a slot holds, if it holds one.
+    pub fn value(self) -> Option<Value>
+        ensures { λ r. ⌜ r ≡ valueIn self ⌝ }
+    {
+        match self {
+            Slot::Number(z) => Some(Value::Number(z)),
+            Slot::Truth(b) => Some(Value::Truth(b)),
+            Slot::Unset => None,
+            Slot::Position(_) => None,
+        }
+    }
+}
