@@ -1,0 +1,2 @@
+// Frame memories: the two halves of the interface, the static chain and the display.
+pub mod memory;
