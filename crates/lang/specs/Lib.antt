@@ -2,3 +2,4 @@ pub mod Values
 pub mod Refusals
 pub mod Faults
 pub mod Instructions
+pub mod Names

@@ -1,5 +1,7 @@
-// The vocabulary of the engine: values, refusals, faults and instructions, with their numbers.
+// The vocabulary of the engine: values, names, the sheet, refusals, faults, instructions, code, and the stack.
 pub mod value;
 pub mod refusal;
 pub mod fault;
 pub mod instruction;
+pub mod name;
+pub mod sheet;

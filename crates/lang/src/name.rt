@@ -1,0 +1,6 @@
+// A name: its bytes, and zeros up to the sixteenth. No name has a zero byte.
+#[derive(Clone, Copy, PartialEq, Eq, Debug)]
+pub struct Name {
+    pub bytes: [u8; 16],
+}
+
