@@ -3,3 +3,5 @@ pub mod Refusals
 pub mod Faults
 pub mod Instructions
 pub mod Names
+pub mod Stacks
+pub mod Codes

@@ -5,3 +5,5 @@ pub mod fault;
 pub mod instruction;
 pub mod name;
 pub mod sheet;
+pub mod stack;
+pub mod code;

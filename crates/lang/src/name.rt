@@ -4,3 +4,5 @@ pub struct Name {
     pub bytes: [u8; 16],
 }
 
+
+pub mod calls;
