@@ -72,3 +72,9 @@ module _ {T : Type 0} where
   pub nth-newest : (xs ys : List T) (n : ℕ) → 0 < n → n ≤ length xs → take n xs ≡ ys → nth ys (n - 1) ≡ newest (reverse ys)
   nth-newest [] ys n h l e = absurd (omega arith)
   nth-newest (x ∷ xs) ys n h l e = nth-last (x ∷ xs) ys n x h l e
+
+  pub nth-short : (n : ℕ) (xs : List T) (i : ℕ) → length xs ≤ i → nth (take n xs) i ≡ None
+  nth-short zero xs i h = ap (λ l. nth l i) (take-none xs)
+  nth-short (suc n) [] i h = refl
+  nth-short (suc n) (x ∷ xs) zero h = absurd (omega arith)
+  nth-short (suc n) (x ∷ xs) (suc i) h = nth-short n xs i (omega arith)

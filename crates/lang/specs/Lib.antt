@@ -5,3 +5,4 @@ pub mod Instructions
 pub mod Names
 pub mod Stacks
 pub mod Codes
+pub mod Sheets

@@ -22,3 +22,5 @@ pub struct Sheet {
     entries: [Entry; 32],
     count: usize,
 }
+
+pub mod calls;
