@@ -1,2 +1,4 @@
 // Frame memories: the two halves of the interface, the static chain and the display.
 pub mod memory;
+mod slots;
+pub mod chain;
