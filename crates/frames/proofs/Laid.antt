@@ -24,7 +24,9 @@ use Rattle.lang.specs.declared.value.Slot.{Slot}
 use Rattle.lang.specs.declared.value.Slot.the-variants.{Unset}
 use Rattle.lang.specs.declared.refusal.Refusal.the-variants.{NoSuchSlot, TooManyFrames, TooManySlots, ChainTooDeep}
 use Rattle.frames.specs.Frames.{Frame, Frames, none, _▷_, count, total, newest, upTo, walk, asked, lastSlot, got, lastWidth, width, Built, refused, done, stands, deep, fresh, grown, filled, filledIn, writtenFrom, written}
-use Rattle.frames.specs.Layout.{before, laid, frameAt, rises, endOf, Within, Earlier, part, Placed}
+use Rattle.frames.specs.Layout.{before, laid, frameAt, rises, endOf, Within, Earlier, part, Placed, framesIn, LaidOut, Room}
+use Rattle.frames.specs.declared.slots.FrameSlots.{FrameSlots}
+use denote.Ref.{now}
 use Rattle.frames.specs.Chains.{single}
 
 pub some-before : (p : ℕ) → (p ≡ 0 → ⊥) → Some (p - 1) ≡ before p
@@ -305,3 +307,17 @@ module _ (fs gs : Frames) (n : ℕ) where
 
   pub grown-done : count fs < 256 → total fs + n ≤ 2048 → deep gs ≡ false → done (fs ▷ fresh n (newest gs)) ≡ grown fs gs n
   grown-done a b d = sym (grown-room a b ∙ cond-false (deep gs) (refused ChainTooDeep fs) (done (fs ▷ fresh n (newest gs))) d)
+
+-- where there is room, only the depth is left to test
+module _ (up : ℕ → ℕ) (s : FrameSlots) (l : LaidOut s) (n : ℕ) (r : Room s n) (gs : Frames) where
+  few-stand : count (framesIn up s) < 256
+  few-stand = let a = count-laid up (now (s .starts)) (now (s .cells)) (s .count) (s .used) in omega (arith, r .frames)
+
+  few-used : total (framesIn up s) + n ≤ 2048
+  few-used = let a = total-laid up (now (s .starts)) (now (s .cells)) (s .count) (s .used) (l .rising) (omega (arith, l .small, l .cellRoom)) in omega (arith, r .slots)
+
+  pub room-deep : deep gs ≡ true → refused ChainTooDeep (framesIn up s) ≡ grown (framesIn up s) gs n
+  room-deep d = grown-deep (framesIn up s) gs n few-stand few-used d
+
+  pub room-done : deep gs ≡ false → done (framesIn up s ▷ fresh n (newest gs)) ≡ grown (framesIn up s) gs n
+  room-done d = grown-done (framesIn up s) gs n few-stand few-used d

@@ -64,9 +64,13 @@ abbrev pub Placed : (ℕ → ℕ) → List ℕ → List Slot → ℕ → ℕ →
 Placed up ss sl n used h o None = (Err NoSuchSlot ≡ got (laid up ss sl n used) h o) × ((v : Slot) → refused NoSuchSlot (laid up ss sl n used) ≡ written (laid up ss sl n used) h o v)
 Placed up ss sl n used h o (Some p) = (p < used) × (Ok (getD sl p Unset) ≡ got (laid up ss sl n used) h o) × ((v : Slot) → done (laid up ss (set sl p v) n used) ≡ written (laid up ss sl n used) h o v)
 
--- memory that is too short: links under what a memory asks for, under 256 starts or under 2,048 slots
+-- memory that is too short for the slots of frames: under 256 starts or under 2,048 slots
+abbrev pub shortSlots : ℕ → ℕ → Bool
+shortSlots s n = cond (ltb s 256) true (ltb n 2048)
+
+-- memory that is too short: fewer links than are needed, or short for the slots
 abbrev pub short : ℕ → ℕ → ℕ → ℕ → Bool
-short need p s n = cond (ltb p need) true (cond (ltb s 256) true (ltb n 2048))
+short need p s n = cond (ltb p need) true (shortSlots s n)
 
 -- what the slots of frames mean, given the parents
 abbrev pub framesIn : (ℕ → ℕ) → FrameSlots → Frames

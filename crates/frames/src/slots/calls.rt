@@ -5,8 +5,8 @@ ghost use Prim.Native.Nat.{ℕ, _+_, _≤_, _<_};
 ghost use lib.ListN.{length, getD, take, replicate};
 ghost use Rattle.std.specs.Results.{Cases as ByOk};
 ghost use Rattle.std.specs.Vec.{made};
-ghost use Rattle.frames.specs.Frames.{Frames, _▷_, count as frameTotal, total as slotTotal, got, width, grown, fresh, left, written, refused};
-ghost use Rattle.frames.specs.Layout.{before, endOf, framesIn, partIn, Within, PlacedIn, Reached, Same, LaidOut, Room, short};
+ghost use Rattle.frames.specs.Frames.{Frames, none, _▷_, count as frameTotal, total as slotTotal, got, width, grown, fresh, left, written, refused};
+ghost use Rattle.frames.specs.Layout.{before, endOf, framesIn, partIn, Within, PlacedIn, Reached, Same, LaidOut, Room, shortSlots};
 ghost use Rattle.lang.specs.Refusals.{number};
 use crate::slots::FrameSlots;
 use lang::refusal::Refusal;
@@ -16,8 +16,8 @@ impl<'m> FrameSlots<'m> {
     // No frame yet, in what is lent.
     pub(crate) fn over(starts: &'m mut [u16], cells: &'m mut [Slot]) -> Result<FrameSlots<'m>, Refusal>
         ensures { λ r. ⌜ ByOk r
-            (λ s. (short 0 0 (length (now (starts .entry))) (length (now (cells .entry))) ≡ false) × LaidOut s × (s .count ≡ 0))
-            (λ e. (short 0 0 (length (now (starts .entry))) (length (now (cells .entry))) ≡ true) × (number e ≡ 1)) ⌝ }
+            (λ s. (shortSlots (length (now (starts .entry))) (length (now (cells .entry))) ≡ false) × LaidOut s × (s .count ≡ 0) × ((up : ℕ → ℕ) → framesIn up s ≡ none))
+            (λ e. (shortSlots (length (now (starts .entry))) (length (now (cells .entry))) ≡ true) × (number e ≡ 1)) ⌝ }
     {
         if starts.len() < 256 || cells.len() < 2048 {
             return Err(Refusal::ShortMemory);
@@ -27,14 +27,15 @@ impl<'m> FrameSlots<'m> {
 
     // How many frames stand.
     pub(crate) fn frame_count(&self) -> usize
-        ensures { λ r. ⌜ r ≡ now (self .entry) .count ⌝ }
+        ensures is { λ r. ⌜ r ≡ now (self .entry) .count ⌝ }
+        ensures all { λ r. ⌜ ((up : ℕ → ℕ) → r ≡ frameTotal (framesIn up (now (self .entry)))) ⌝ }
     {
         self.count
     }
 
     // How many slots they have together.
     pub(crate) fn slot_count(&self) -> usize
-        ensures { λ r. ⌜ r ≡ now (self .entry) .used ⌝ }
+        ensures { λ r. ⌜ (LaidOut (now (self .entry)) → (up : ℕ → ℕ) → r ≡ slotTotal (framesIn up (now (self .entry)))) ⌝ }
     {
         self.used
     }
@@ -125,7 +126,7 @@ impl<'m> FrameSlots<'m> {
 
     // No frame stands.
     pub(crate) fn clear(&mut self)
-        ensures { λ _. ⌜ (LaidOut (now (self .entry)) → LaidOut (now (self .exit)) × (now (self .exit) .count ≡ 0)) ⌝ }
+        ensures { λ _. ⌜ (LaidOut (now (self .entry)) → LaidOut (now (self .exit)) × (now (self .exit) .count ≡ 0) × ((up : ℕ → ℕ) → framesIn up (now (self .exit)) ≡ none)) ⌝ }
     {
         self.count = 0;
         self.used = 0;
