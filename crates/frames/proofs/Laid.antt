@@ -24,7 +24,7 @@ use Rattle.lang.specs.declared.value.Slot.{Slot}
 use Rattle.lang.specs.declared.value.Slot.the-variants.{Unset}
 use Rattle.lang.specs.declared.refusal.Refusal.the-variants.{NoSuchSlot, TooManyFrames, TooManySlots, ChainTooDeep}
 use Rattle.frames.specs.Frames.{Frame, Frames, none, _▷_, count, total, newest, upTo, walk, asked, lastSlot, got, lastWidth, width, Built, refused, done, stands, deep, fresh, grown, filled, filledIn, writtenFrom, written}
-use Rattle.frames.specs.Layout.{before, laid, frameAt, rises, endOf, Within, Earlier, part, Placed, framesIn, LaidOut, Room}
+use Rattle.frames.specs.Layout.{before, laid, frameAt, rises, endOf, Within, Earlier, Inside, part, Placed, framesIn, LaidOut, Room}
 use Rattle.frames.specs.declared.slots.FrameSlots.{FrameSlots}
 use denote.Ref.{now}
 use Rattle.frames.specs.Chains.{single}
@@ -259,14 +259,14 @@ module _ (up : ℕ → ℕ) (ss : List ℕ) (sl : List Slot) (n used : ℕ) (r :
   width-at : (k : ℕ) → k < n → length (between (getD ss k 0) (endOf ss n used k) sl) ≡ endOf ss n used k - getD ss k 0
   width-at k h = let b = rises-bounds ss n used k r h in length-between sl (getD ss k 0) (endOf ss n used k) (omega arith)
 
-  pub placed-out : (h k o : ℕ) → part up ss sl n used (Some k) ≡ walk h whole → k < n → endOf ss n used k ≤ getD ss k 0 + o → Placed up ss sl n used h o None
+  placed-out : (h k o : ℕ) → part up ss sl n used (Some k) ≡ walk h whole → k < n → endOf ss n used k ≤ getD ss k 0 + o → Placed up ss sl n used h o None
   placed-out h k o e l b =
       let w = width-at k l in
       let xs = between (getD ss k 0) (endOf ss n used k) sl in
       (ap asked (sym (nth-past xs o (omega arith))) ∙ ap (λ fs. lastSlot fs o) e,
        λ v. sym (cond-false (ltb o (length xs)) (done (filledIn (count (laid up ss sl k (getD ss k 0))) o v whole)) (refused NoSuchSlot whole) (le-ltb o (length xs) (omega arith))) ∙ ap (λ fs. writtenFrom whole fs o v) e)
 
-  pub placed-in : (h k o : ℕ) → part up ss sl n used (Some k) ≡ walk h whole → k < n → getD ss k 0 + o < endOf ss n used k → Placed up ss sl n used h o (Some (getD ss k 0 + o))
+  placed-in : (h k o : ℕ) → part up ss sl n used (Some k) ≡ walk h whole → k < n → getD ss k 0 + o < endOf ss n used k → Placed up ss sl n used h o (Some (getD ss k 0 + o))
   placed-in h k o e l b =
       let w = width-at k l in
       let q = rises-bounds ss n used k r l in
@@ -277,6 +277,12 @@ module _ (up : ℕ → ℕ) (ss : List ℕ) (sl : List Slot) (n used : ℕ) (r :
          ∙ ap (λ j. done (filledIn j o v whole)) (sym (count-laid up ss sl k (getD ss k 0)))
          ∙ sym (cond-true (ltb o (length xs)) (done (filledIn (count (laid up ss sl k (getD ss k 0))) o v whole)) (refused NoSuchSlot whole) (lt-ltb o (length xs) (omega arith)))
          ∙ ap (λ fs. writtenFrom whole fs o v) e)
+
+  pub placed-at : (h k o : ℕ) (p : Option ℕ) → part up ss sl n used (Some k) ≡ walk h whole → k < n → Inside (getD ss k 0) (endOf ss n used k) o p → Placed up ss sl n used h o p
+  placed-at h k o None e l i = placed-out h k o e l i
+  placed-at h k o (Some p) e l i =
+      let P : ℕ → Type 0 = λ x. Placed up ss sl n used h o (Some x) in
+      subst P (sym (i .0)) (placed-in h k o e l (omega (arith, i .0, i .1)))
 
   pub width-in : (h k : ℕ) → part up ss sl n used (Some k) ≡ walk h whole → k < n → Ok (endOf ss n used k - getD ss k 0) ≡ width whole h
   width-in h k e l = ap Ok (sym (width-at k l)) ∙ ap lastWidth e

@@ -54,6 +54,11 @@ Within (Some k) n = k < n
 abbrev pub endOf : List ℕ → ℕ → ℕ → ℕ → ℕ
 endOf ss n used k = cond (eqb (k + 1) n) used (getD ss (k + 1) 0)
 
+-- the place an offset after a start, where that is before the end
+abbrev pub Inside : ℕ → ℕ → ℕ → Option ℕ → Type 0
+Inside start end o None = end ≤ start + o
+Inside start end o (Some p) = (p ≡ start + o) × (p < end)
+
 -- the frames up to a number, that one included
 abbrev pub part : (ℕ → ℕ) → List ℕ → List Slot → ℕ → ℕ → Option ℕ → Frames
 part up ss sl n used None = none

@@ -1,3 +1,4 @@
 pub mod Frames
 pub mod Layout
 pub mod Chains
+pub mod Displays

@@ -8,22 +8,13 @@ ghost use Rattle.frames.specs.Layout.{before, Within, Room, short};
 ghost use Rattle.frames.specs.Chains.{single, framesOf, partOf, Sound};
 ghost use Rattle.lang.specs.Refusals.{number};
 use crate::chain::Chain;
+use crate::link::decoded;
+use crate::link::encoded;
 use crate::memory::BuildFrames;
 use crate::memory::ReadFrames;
 use crate::slots::FrameSlots;
 use lang::refusal::Refusal;
 use lang::value::Slot;
-
-// A parent as it lies in the memory: 0 for none, else its number plus one.
-fn link_of(parent: Option<usize>, at: usize) -> u16
-    ensures is { λ r. ⌜ (Within parent at → at ≤ 256 → before r ≡ parent) ⌝ }
-    ensures under { λ r. ⌜ r ≤ at ⌝ }
-{
-    match parent {
-        Some(p) if p < at && p < 256 => (p + 1) as u16,
-        _ => 0,
-    }
-}
 
 impl<'m> Chain<'m> {
     // An empty chain in what is lent; 1 where that is too short.
@@ -47,10 +38,7 @@ impl<'m> Chain<'m> {
         if k >= self.parents.len() {
             return None;
         }
-        match self.parents[k] {
-            0 => None,
-            p => Some(p as usize - 1),
-        }
+        decoded(self.parents[k])
     }
 
     // The frame that lies hops parents outward from a frame.
@@ -84,7 +72,7 @@ impl<'m> Chain<'m> {
         ensures { λ _. ⌜ (Sound (now (self .entry)) → Within parent (now (self .entry) .slots .count) → Sound (now (self .exit)) × (framesOf (now (self .exit)) ≡ framesOf (now (self .entry)) ▷ fresh n parent)) ⌝ }
     {
         let at = self.slots.frame_count();
-        self.parents[at] = link_of(parent, at);
+        self.parents[at] = encoded(parent, at);
         self.slots.push(n);
     }
 

@@ -6,11 +6,18 @@ ghost use lib.ListN.{length, getD, take, replicate};
 ghost use Rattle.std.specs.Results.{Cases as ByOk};
 ghost use Rattle.std.specs.Vec.{made};
 ghost use Rattle.frames.specs.Frames.{Frames, none, _▷_, count as frameTotal, total as slotTotal, got, width, grown, fresh, left, written, refused};
-ghost use Rattle.frames.specs.Layout.{before, endOf, framesIn, partIn, Within, PlacedIn, Reached, Same, LaidOut, Room, shortSlots};
+ghost use Rattle.frames.specs.Layout.{before, endOf, Inside, framesIn, partIn, Within, PlacedIn, Reached, Same, LaidOut, Room, shortSlots};
 ghost use Rattle.lang.specs.Refusals.{number};
 use crate::slots::FrameSlots;
 use lang::refusal::Refusal;
 use lang::value::Slot;
+
+// The place an offset after a start, where that is before the end.
+fn inside(start: usize, end: usize, offset: usize) -> Option<usize>
+    ensures { λ r. ⌜ Inside start end offset r ⌝ }
+{
+    if offset < end.saturating_sub(start) { Some(start + offset) } else { None }
+}
 
 impl<'m> FrameSlots<'m> {
     // No frame yet, in what is lent.
@@ -93,8 +100,8 @@ impl<'m> FrameSlots<'m> {
             None => None,
             Some(k) => {
                 let start = self.start_of(k);
-                let room = self.end_of(k).saturating_sub(start);
-                if offset < room { Some(start + offset) } else { None }
+                let end = self.end_of(k);
+                inside(start, end, offset)
             }
         }
     }

@@ -18,7 +18,7 @@ returns c = λ s w.
     let at = c .frame-count-at .result in
     let e : n ≡ at = sym (c .frame-count-at .ensures .is) in
     let ps = now (m .parents) in
-    let link = c .link-of .result in
+    let link = c .encoded .result in
     let few : at ≤ 256 = omega (arith, s .laidOut .few) in
     let u = c .push .ensures (s .laidOut) in
     let room : at < length ps = omega (arith, c .pre .room .frames) in
@@ -26,7 +26,7 @@ returns c = λ s w.
        laidOut = u .0;
        parentRoom = simp length-set (s .parentRoom);
        earlier = subst (Earlier (single (set ps at link))) (sym (u .1 ∙ ap (λ j. j + 1) e))
-          (earlier-push ps at link room (c .link-of .ensures .under) (subst (Earlier (single ps)) e (s .earlier))) },
+          (earlier-push ps at link room (c .encoded .ensures .under) (subst (Earlier (single ps)) e (s .earlier))) },
      u .2 (single ps) (single (set ps at link)) (λ k h. let ne : k ≢ at = omega arith in getD-set-other ps at k link 0 ne)
      ∙ ap (λ p. framesOf m ▷ fresh (c .args .n) p)
-         (ap before (ap (single (set ps at link)) e ∙ getD-set-same ps at link 0 room) ∙ c .link-of .ensures .is (subst (Within (c .args .parent)) e w) few))
+         (ap before (ap (single (set ps at link)) e ∙ getD-set-same ps at link 0 room) ∙ c .encoded .ensures .is (subst (Within (c .args .parent)) e w) few))
