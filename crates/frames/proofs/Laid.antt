@@ -278,11 +278,12 @@ module _ (up : ℕ → ℕ) (ss : List ℕ) (sl : List Slot) (n used : ℕ) (r :
          ∙ sym (cond-true (ltb o (length xs)) (done (filledIn (count (laid up ss sl k (getD ss k 0))) o v whole)) (refused NoSuchSlot whole) (lt-ltb o (length xs) (omega arith)))
          ∙ ap (λ fs. writtenFrom whole fs o v) e)
 
-  pub placed-at : (h k o : ℕ) (p : Option ℕ) → part up ss sl n used (Some k) ≡ walk h whole → k < n → Inside (getD ss k 0) (endOf ss n used k) o p → Placed up ss sl n used h o p
-  placed-at h k o None e l i = placed-out h k o e l i
-  placed-at h k o (Some p) e l i =
+  pub placed-at : (h k o start end : ℕ) (p : Option ℕ) → part up ss sl n used (Some k) ≡ walk h whole → k < n → start ≡ getD ss k 0 → end ≡ endOf ss n used k → Inside start end o p → Placed up ss sl n used h o p
+  placed-at h k o start end None e l a b i = placed-out h k o e l (omega arith)
+  placed-at h k o start end (Some p) e l a b i =
       let P : ℕ → Type 0 = λ x. Placed up ss sl n used h o (Some x) in
-      subst P (sym (i .0)) (placed-in h k o e l (omega (arith, i .0, i .1)))
+      let q : getD ss k 0 + o ≡ p = omega (arith, i .0) in
+      subst P q (placed-in h k o e l (omega (arith, i .1)))
 
   pub width-in : (h k : ℕ) → part up ss sl n used (Some k) ≡ walk h whole → k < n → Ok (endOf ss n used k - getD ss k 0) ≡ width whole h
   width-in h k e l = ap Ok (sym (width-at k l)) ∙ ap lastWidth e

@@ -4,3 +4,4 @@ mod link;
 mod slots;
 pub mod chain;
 pub mod display;
+pub mod passage;
