@@ -1,9 +1,9 @@
 -- frames that lie in starts and slots, whatever keeps their parents
 use Prim.Native.Nat.{ℕ, zero, suc, _+_, _-_, _<_, _≤_}
 use mathlib.Core.Path.{_≡_, refl, sym, ap, subst, _∙_}
-use mathlib.Core.Logic.{_≢_, _⊎_, inl, inr, ⊎-elim}
-use mathlib.Core.List.{List, [], _∷_, _++_}
-use mathlib.Core.Bool.{Bool, true, false, cond}
+use mathlib.Core.Logic.{_≢_, _⊎_, ⊎-elim}
+use mathlib.Core.List.{List, [], _++_}
+use mathlib.Core.Bool.{true, false, cond}
 use lib.Dec.{leb, eqb, ltb}
 use lib.ListN.{length, getD, set, take, drop, replicate}
 use native.Mathlib.Omega.{arith}
@@ -11,7 +11,7 @@ use native.Mathlib.Numerals.{add-one}
 use Rattle.std.proofs.shelf.Tests.{cases-lt, cond-true, cond-false, lt-ltb, le-ltb, le-leb, lt-leb}
 use lib.Seq.{take-set-lt}
 use Rattle.std.proofs.shelf.Parts.{between-is}
-use Rattle.std.proofs.shelf.Lists.{take-take, take-at, drop-at, getD-set-same, getD-set-other, take-set-le, drop-set-lt, drop-set-add, length-take-le, length-replicate, length-take, length-drop, getD-take, getD-drop}
+use Rattle.std.proofs.shelf.Lists.{take-take, take-at, drop-at, getD-set-same, getD-set-other, take-set-le, drop-set-lt, drop-set-add, length-take-le, length-take, length-drop, getD-take, getD-drop}
 use Rattle.std.proofs.shelf.Maps.{nth-getD, nth-past}
 use Rattle.std.specs.Finite.{nth}
 use Rattle.std.specs.Holes.{between}
@@ -19,11 +19,11 @@ use Rattle.std.specs.Options.{isSome}
 use Rattle.std.proofs.shelf.Ways.{tells}
 use Rattle.std.specs.declared.option.Option.{Option}
 use Rattle.std.specs.declared.option.Option.the-variants.{Some, None}
-use Rattle.std.specs.declared.result.Result.the-variants.{Ok, Err}
+use Rattle.std.specs.declared.result.Result.the-variants.{Ok}
 use Rattle.lang.specs.declared.value.Slot.{Slot}
 use Rattle.lang.specs.declared.value.Slot.the-variants.{Unset}
 use Rattle.lang.specs.declared.refusal.Refusal.the-variants.{NoSuchSlot, TooManyFrames, TooManySlots, ChainTooDeep}
-use Rattle.frames.specs.Frames.{Frame, Frames, none, _▷_, count, total, newest, upTo, walk, asked, lastSlot, got, lastWidth, width, Built, refused, done, stands, deep, fresh, grown, filled, filledIn, writtenFrom, written}
+use Rattle.frames.specs.Frames.{Frames, none, _▷_, count, total, newest, upTo, walk, asked, lastSlot, lastWidth, width, Built, refused, done, stands, deep, fresh, grown, filled, filledIn, writtenFrom, written}
 use Rattle.frames.specs.Layout.{before, laid, frameAt, rises, endOf, Within, Earlier, Inside, part, Placed, framesIn, LaidOut, Room}
 use Rattle.frames.specs.declared.slots.FrameSlots.{FrameSlots}
 use denote.Ref.{now}
@@ -77,17 +77,17 @@ rises-bounds ss zero used k r h = absurd (omega arith)
 rises-bounds ss (suc n) used k r h =
     let p = rises-parts ss n used r in
     ⊎-elim
-      (λ (l : k < n).
-        let b = rises-bounds ss n (getD ss n 0) k (p .1) l in
-        let e = end-more ss n used k l in
-        (omega arith, omega arith))
-      (λ (l : n ≤ k).
-        let q : k ≡ n = omega arith in
-        let e = end-last ss n used in
-        let f : endOf ss (suc n) used k ≡ endOf ss (suc n) used n = ap (λ j. endOf ss (suc n) used j) q in
-        let g : getD ss k 0 ≡ getD ss n 0 = ap (λ j. getD ss j 0) q in
-        (omega arith, omega arith))
-      (cases-lt k n)
+    (λ (l : k < n).
+    let b = rises-bounds ss n (getD ss n 0) k (p .1) l in
+    let e = end-more ss n used k l in
+    (omega arith, omega arith))
+    (λ (l : n ≤ k).
+    let q : k ≡ n = omega arith in
+    let e = end-last ss n used in
+    let f : endOf ss (suc n) used k ≡ endOf ss (suc n) used n = ap (λ j. endOf ss (suc n) used j) q in
+    let g : getD ss k 0 ≡ getD ss n 0 = ap (λ j. getD ss j 0) q in
+    (omega arith, omega arith))
+    (cases-lt k n)
 
 module _ (up : ℕ → ℕ) (ss : List ℕ) (sl : List Slot) where
   pub count-laid : (n used : ℕ) → count (laid up ss sl n used) ≡ n
@@ -117,14 +117,14 @@ module _ (up : ℕ → ℕ) (ss : List ℕ) (sl : List Slot) where
       let c = count-laid n s in
       ap (λ m. cond (eqb k m) (laid up ss sl (suc n) used) (upTo (Some k) (laid up ss sl n s))) c
       ∙ ⊎-elim
-        (λ (l : k < n).
-          let e : cond (eqb k n) (laid up ss sl (suc n) used) (upTo (Some k) (laid up ss sl n s)) ≡ upTo (Some k) (laid up ss sl n s) = grind (arith, tells) in
-          e ∙ upto-laid n s k l ∙ ap (laid up ss sl (suc k)) (end-more ss n used k l))
-        (λ (l : n ≤ k).
-          let q : n ≡ k = omega arith in
-          let e : cond (eqb k n) (laid up ss sl (suc n) used) (upTo (Some k) (laid up ss sl n s)) ≡ laid up ss sl (suc n) used = grind (arith, tells) in
-          e ∙ ap (laid up ss sl (suc n)) (end-last ss n used) ∙ ap (λ j. laid up ss sl (suc j) (endOf ss (suc n) used j)) q)
-        (cases-lt k n)
+      (λ (l : k < n).
+      let e : cond (eqb k n) (laid up ss sl (suc n) used) (upTo (Some k) (laid up ss sl n s)) ≡ upTo (Some k) (laid up ss sl n s) = grind (arith, tells) in
+      e ∙ upto-laid n s k l ∙ ap (laid up ss sl (suc k)) (end-more ss n used k l))
+      (λ (l : n ≤ k).
+      let q : n ≡ k = omega arith in
+      let e : cond (eqb k n) (laid up ss sl (suc n) used) (upTo (Some k) (laid up ss sl n s)) ≡ laid up ss sl (suc n) used = grind (arith, tells) in
+      e ∙ ap (laid up ss sl (suc n)) (end-last ss n used) ∙ ap (λ j. laid up ss sl (suc j) (endOf ss (suc n) used j)) q)
+      (cases-lt k n)
 
   upto-part : (n used k j : ℕ) → k < n → j ≤ k → upTo (before j) (laid up ss sl k (getD ss k 0)) ≡ part up ss sl n used (before j)
   upto-part n used k zero h l = refl
@@ -181,9 +181,9 @@ laid-push up up′ ss sl sl′ n used m parent hs hu l others′ e r =
     let start : getD S n 0 ≡ used = getD-set-same ss n used 0 hs in
     let front : length (take used sl) ≡ used = length-take-le used sl hu in
     let low : take used sl′ ≡ take used sl =
-          sym (take-take used (used + m) sl′ (omega arith)) ∙ ap (take used) e ∙ take-at (take used sl) (replicate m Unset) used front in
+    sym (take-take used (used + m) sl′ (omega arith)) ∙ ap (take used) e ∙ take-at (take used sl) (replicate m Unset) used front in
     let high : between used (used + m) sl′ ≡ replicate m Unset =
-          between-is sl′ used (used + m) ∙ ap (drop used) e ∙ drop-at (take used sl) (replicate m Unset) used front in
+    between-is sl′ used (used + m) ∙ ap (drop used) e ∙ drop-at (take used sl) (replicate m Unset) used front in
     let others : (k : ℕ) → k < n → getD S k 0 ≡ getD ss k 0 = λ k h. let ne : k ≢ n = omega arith in getD-set-other ss n k used 0 ne in
     ap (λ j. laid up′ S sl′ j (used + m)) (add-one n)
     ∙ ap (λ s. laid up′ S sl′ n s ▷ record { slots = between s (used + m) sl′; parent = before (up′ n) }) start
@@ -228,25 +228,25 @@ module _ (up : ℕ → ℕ) (ss : List ℕ) (sl : List Slot) (o : ℕ) (v : Slot
       let f = frameAt up ss sl n used in
       let c : cond (eqb k n) (fs ▷ filled f o v) (filledIn k o v fs ▷ f) ≡ filledIn k o v (fs ▷ f) = ap (λ m. cond (eqb k m) (fs ▷ filled f o v) (filledIn k o v fs ▷ f)) (sym (count-laid up ss sl n s)) in
       ⊎-elim
-        (λ (b : k < n).
-          let i = getD ss k 0 + o in
-          let e = end-more ss n used k b in
-          let q = rises-bounds ss n s k (p .1) b in
-          let t : filledIn k o v fs ▷ f ≡ cond (eqb k n) (fs ▷ filled f o v) (filledIn k o v fs ▷ f) = grind (arith, tells) in
-          ap (λ xs. laid up ss (set sl i v) n s ▷ record { slots = xs; parent = before (up n) }) (between-below s used i (omega arith))
-          ∙ ap (λ fs. fs ▷ f) (laid-put n s k (p .1) b (omega arith))
-          ∙ t ∙ c)
-        (λ (b : n ≤ k).
-          let q : n ≡ k = omega arith in
-          let e = end-last ss n used in
-          let x : getD ss k 0 ≡ s = ap (λ j. getD ss j 0) (sym q) in
-          let l′ : s + o < used = let y : endOf ss (suc n) used k ≡ endOf ss (suc n) used n = ap (endOf ss (suc n) used) (sym q) in omega arith in
-          let t : fs ▷ filled f o v ≡ cond (eqb k n) (fs ▷ filled f o v) (filledIn k o v fs ▷ f) = grind (arith, tells) in
-          ap (λ j. laid up ss (set sl (j + o) v) (suc n) used) x
-          ∙ ap (λ xs. laid up ss (set sl (s + o) v) n s ▷ record { slots = xs; parent = before (up n) }) (between-put s used l′)
-          ∙ ap (λ fs. fs ▷ filled f o v) (laid-same up up ss ss sl (set sl (s + o) v) n s (λ _ _. refl) (λ _ _. refl) (take-set-le s sl (s + o) v (omega arith)) (p .1))
-          ∙ t ∙ c)
-        (cases-lt k n)
+      (λ (b : k < n).
+      let i = getD ss k 0 + o in
+      let e = end-more ss n used k b in
+      let q = rises-bounds ss n s k (p .1) b in
+      let t : filledIn k o v fs ▷ f ≡ cond (eqb k n) (fs ▷ filled f o v) (filledIn k o v fs ▷ f) = grind (arith, tells) in
+      ap (λ xs. laid up ss (set sl i v) n s ▷ record { slots = xs; parent = before (up n) }) (between-below s used i (omega arith))
+      ∙ ap (λ fs. fs ▷ f) (laid-put n s k (p .1) b (omega arith))
+      ∙ t ∙ c)
+      (λ (b : n ≤ k).
+      let q : n ≡ k = omega arith in
+      let e = end-last ss n used in
+      let x : getD ss k 0 ≡ s = ap (λ j. getD ss j 0) (sym q) in
+      let l′ : s + o < used = let y : endOf ss (suc n) used k ≡ endOf ss (suc n) used n = ap (endOf ss (suc n) used) (sym q) in omega arith in
+      let t : fs ▷ filled f o v ≡ cond (eqb k n) (fs ▷ filled f o v) (filledIn k o v fs ▷ f) = grind (arith, tells) in
+      ap (λ j. laid up ss (set sl (j + o) v) (suc n) used) x
+      ∙ ap (λ xs. laid up ss (set sl (s + o) v) n s ▷ record { slots = xs; parent = before (up n) }) (between-put s used l′)
+      ∙ ap (λ fs. fs ▷ filled f o v) (laid-same up up ss ss sl (set sl (s + o) v) n s (λ _ _. refl) (λ _ _. refl) (take-set-le s sl (s + o) v (omega arith)) (p .1))
+      ∙ t ∙ c)
+      (cases-lt k n)
 
 -- what is read and written, where a part is known
 module _ (up : ℕ → ℕ) (ss : List ℕ) (sl : List Slot) (n used : ℕ) (r : rises ss n used ≡ true) (fit : used ≤ length sl) where
@@ -262,21 +262,23 @@ module _ (up : ℕ → ℕ) (ss : List ℕ) (sl : List Slot) (n used : ℕ) (r :
   placed-out : (h k o : ℕ) → part up ss sl n used (Some k) ≡ walk h whole → k < n → endOf ss n used k ≤ getD ss k 0 + o → Placed up ss sl n used h o None
   placed-out h k o e l b =
       let w = width-at k l in
-      let xs = between (getD ss k 0) (endOf ss n used k) sl in
-      (ap asked (sym (nth-past xs o (omega arith))) ∙ ap (λ fs. lastSlot fs o) e,
-       λ v. sym (cond-false (ltb o (length xs)) (done (filledIn (count (laid up ss sl k (getD ss k 0))) o v whole)) (refused NoSuchSlot whole) (le-ltb o (length xs) (omega arith))) ∙ ap (λ fs. writtenFrom whole fs o v) e)
+      let xs = between (getD ss k 0) (endOf ss n used k) sl in (
+        ap asked (sym (nth-past xs o (omega arith))) ∙ ap (λ fs. lastSlot fs o) e,
+        λ v. sym (cond-false (ltb o (length xs)) (done (filledIn (count (laid up ss sl k (getD ss k 0))) o v whole)) (refused NoSuchSlot whole) (le-ltb o (length xs) (omega arith))) ∙ ap (λ fs. writtenFrom whole fs o v) e,
+      )
 
   placed-in : (h k o : ℕ) → part up ss sl n used (Some k) ≡ walk h whole → k < n → getD ss k 0 + o < endOf ss n used k → Placed up ss sl n used h o (Some (getD ss k 0 + o))
   placed-in h k o e l b =
       let w = width-at k l in
       let q = rises-bounds ss n used k r l in
-      let xs = between (getD ss k 0) (endOf ss n used k) sl in
-      (omega arith,
-       ap asked (sym (nth-between sl (getD ss k 0) (endOf ss n used k) o Unset (omega arith) b)) ∙ ap (λ fs. lastSlot fs o) e,
-       λ v. ap done (laid-put up ss sl o v n used k r l b)
-         ∙ ap (λ j. done (filledIn j o v whole)) (sym (count-laid up ss sl k (getD ss k 0)))
-         ∙ sym (cond-true (ltb o (length xs)) (done (filledIn (count (laid up ss sl k (getD ss k 0))) o v whole)) (refused NoSuchSlot whole) (lt-ltb o (length xs) (omega arith)))
-         ∙ ap (λ fs. writtenFrom whole fs o v) e)
+      let xs = between (getD ss k 0) (endOf ss n used k) sl in (
+        omega arith,
+        ap asked (sym (nth-between sl (getD ss k 0) (endOf ss n used k) o Unset (omega arith) b)) ∙ ap (λ fs. lastSlot fs o) e,
+        λ v. ap done (laid-put up ss sl o v n used k r l b)
+            ∙ ap (λ j. done (filledIn j o v whole)) (sym (count-laid up ss sl k (getD ss k 0)))
+            ∙ sym (cond-true (ltb o (length xs)) (done (filledIn (count (laid up ss sl k (getD ss k 0))) o v whole)) (refused NoSuchSlot whole) (lt-ltb o (length xs) (omega arith)))
+            ∙ ap (λ fs. writtenFrom whole fs o v) e,
+      )
 
   pub placed-at : (h k o start end : ℕ) (p : Option ℕ) → part up ss sl n used (Some k) ≡ walk h whole → k < n → start ≡ getD ss k 0 → end ≡ endOf ss n used k → Inside start end o p → Placed up ss sl n used h o p
   placed-at h k o start end None e l a b i = placed-out h k o e l (omega arith)

@@ -1,6 +1,6 @@
 -- A passage by the frame meaning alone: each call's answer, and what stands after it.
-use Prim.Native.Nat.{ℕ, zero, suc, _+_, _<_, _≤_}
-use mathlib.Core.Path.{_≡_, refl, sym, ap, _∙_}
+use Prim.Native.Nat.{ℕ, _+_, _<_, _≤_}
+use mathlib.Core.Path.{_≡_, sym, ap, _∙_}
 use mathlib.Core.Logic.{_⊎_, ⊎-elim}
 use mathlib.Core.Bool.{cond}
 use lib.Dec.{ltb}
@@ -18,8 +18,8 @@ use Rattle.lang.specs.declared.value.Slot.{Slot}
 use Rattle.lang.specs.declared.value.Slot.the-variants.{Unset}
 use Rattle.lang.specs.declared.refusal.Refusal.{Refusal}
 use Rattle.lang.specs.declared.refusal.Refusal.the-variants.{TooManySlots, NoSuchSlot}
-use Rattle.frames.specs.Frames.{Frame, Frames, none, _▷_, asked, got, refused, done, fresh, filled, opened, entered, written, left}
-use Rattle.frames.specs.Passages.{Passed, passed}
+use Rattle.frames.specs.Frames.{Frames, none, _▷_, asked, got, refused, done, fresh, filled, opened, entered, written, left}
+use Rattle.frames.specs.Passages.{passed}
 
 -- what a question mark hands on
 pub err-is : (r : Result Slot Refusal) (e : Refusal) → ErrBy r (λ x. x ≡ e) → r ≡ Err e

@@ -19,6 +19,7 @@ pub(crate) fn encoded(parent: Option<usize>, at: usize) -> u16
 {
     match parent {
         Some(p) if p < at && p < 256 => (p + 1) as u16,
+        // no parent: a parent is always an earlier frame, and all are numbered below 256
         _ => 0,
     }
 }

@@ -13,7 +13,12 @@ use lang::value::Slot;
 
 // From no frame on: opens a frame of n slots, writes a value into one of them, enters a frame inside it,
 // reads the value from there and leaves the inner frame.
-pub fn passage<F: BuildFrames>(f: &mut F, n: usize, offset: usize, value: Slot) -> Result<Slot, Refusal>
+pub fn passage<F: BuildFrames>(
+    f: &mut F,
+    n: usize,
+    offset: usize,
+    value: Slot,
+) -> Result<Slot, Refusal>
     ensures { λ r. ⌜ (F·ReadFrames .sound (now (f .entry)) → F·ReadFrames .sound (now (f .exit)) × (r ≡ passed n offset value .answer) × (F·ReadFrames .frames (now (f .exit)) ≡ passed n offset value .after)) ⌝ }
 {
     f.clear();
@@ -26,7 +31,14 @@ pub fn passage<F: BuildFrames>(f: &mut F, n: usize, offset: usize, value: Slot) 
 }
 
 // A passage through a chain in what is lent.
-pub fn through_chain(parents: &mut [u16], starts: &mut [u16], slots: &mut [Slot], n: usize, offset: usize, value: Slot) -> Result<Slot, Refusal>
+pub fn through_chain(
+    parents: &mut [u16],
+    starts: &mut [u16],
+    slots: &mut [Slot],
+    n: usize,
+    offset: usize,
+    value: Slot,
+) -> Result<Slot, Refusal>
     ensures { λ r. ⌜ r ≡ passedOver 256 (length (now (parents .entry))) (length (now (starts .entry))) (length (now (slots .entry))) n offset value ⌝ }
 {
     let mut chain = Chain::over(parents, starts, slots)?;
@@ -34,7 +46,14 @@ pub fn through_chain(parents: &mut [u16], starts: &mut [u16], slots: &mut [Slot]
 }
 
 // A passage through a display in what is lent.
-pub fn through_display(levels: &mut [u16], starts: &mut [u16], slots: &mut [Slot], n: usize, offset: usize, value: Slot) -> Result<Slot, Refusal>
+pub fn through_display(
+    levels: &mut [u16],
+    starts: &mut [u16],
+    slots: &mut [Slot],
+    n: usize,
+    offset: usize,
+    value: Slot,
+) -> Result<Slot, Refusal>
     ensures { λ r. ⌜ r ≡ passedOver 4096 (length (now (levels .entry))) (length (now (starts .entry))) (length (now (slots .entry))) n offset value ⌝ }
 {
     let mut display = Display::over(levels, starts, slots)?;

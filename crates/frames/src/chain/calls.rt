@@ -18,7 +18,11 @@ use lang::value::Slot;
 
 impl<'m> Chain<'m> {
     // An empty chain in what is lent; 1 where that is too short.
-    pub fn over(parents: &'m mut [u16], starts: &'m mut [u16], slots: &'m mut [Slot]) -> Result<Chain<'m>, Refusal>
+    pub fn over(
+        parents: &'m mut [u16],
+        starts: &'m mut [u16],
+        slots: &'m mut [Slot],
+    ) -> Result<Chain<'m>, Refusal>
         ensures { λ r. ⌜ ByOk r
             (λ c. (short 256 (length (now (parents .entry))) (length (now (starts .entry))) (length (now (slots .entry))) ≡ false) × Sound c × (framesOf c ≡ none))
             (λ e. (short 256 (length (now (parents .entry))) (length (now (starts .entry))) (length (now (slots .entry))) ≡ true) × (number e ≡ 1)) ⌝ }
@@ -34,7 +38,7 @@ impl<'m> Chain<'m> {
     fn parent(&self, k: usize) -> Option<usize>
         ensures { λ r. ⌜ (Sound (now (self .entry)) → k < now (self .entry) .slots .count → (r ≡ before (single (now (now (self .entry) .parents)) k)) × Within r k) ⌝ }
     {
-        // a frame that stands has its link
+        // cannot be: each frame that stands has its link
         if k >= self.parents.len() {
             return None;
         }
@@ -84,7 +88,7 @@ impl<'m> Chain<'m> {
         if self.walk_out(parent, 15).is_some() {
             return Err(Refusal::ChainTooDeep);
         }
-        // memory that was taken over is long enough
+        // cannot be: the memory is long enough since it was taken over
         if self.parents.len() < 256 {
             return Err(Refusal::ShortMemory);
         }
@@ -95,6 +99,7 @@ impl<'m> Chain<'m> {
 
 pub impl<'m> ReadFrames for Chain<'m> as ChainReadFrames {
     ghost sound = { Sound };
+
     ghost frames = { framesOf };
 
     fn get(&self, hops: usize, offset: usize) -> Result<Slot, Refusal> {
@@ -122,7 +127,7 @@ pub impl<'m> BuildFrames for Chain<'m> as ChainBuildFrames {
     }
 
     fn open(&mut self, n: usize) -> Result<(), Refusal> {
-        let last = self.frame_out(0);
+        let last = self.slots.newest();
         self.grow(last, n)
     }
 

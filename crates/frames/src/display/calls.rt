@@ -17,7 +17,11 @@ use lang::value::Slot;
 
 impl<'m> Display<'m> {
     // An empty display in what is lent; 1 where that is too short.
-    pub fn over(levels: &'m mut [u16], starts: &'m mut [u16], slots: &'m mut [Slot]) -> Result<Display<'m>, Refusal>
+    pub fn over(
+        levels: &'m mut [u16],
+        starts: &'m mut [u16],
+        slots: &'m mut [Slot],
+    ) -> Result<Display<'m>, Refusal>
         ensures { λ r. ⌜ ByOk r
             (λ d. (short 4096 (length (now (levels .entry))) (length (now (starts .entry))) (length (now (slots .entry))) ≡ false) × Sound d × (framesOf d ≡ none))
             (λ e. (short 4096 (length (now (levels .entry))) (length (now (starts .entry))) (length (now (slots .entry))) ≡ true) × (number e ≡ 1)) ⌝ }
@@ -34,10 +38,17 @@ impl<'m> Display<'m> {
         ensures near { λ r. ⌜ (4096 ≤ length (now (now (self .entry) .levels)) → Within from 256 → hops < 16 → r ≡ above (now (now (self .entry) .levels)) (linkOf from) hops) ⌝ }
         ensures far { λ r. ⌜ (16 ≤ hops → r ≡ 0) ⌝ }
     {
-        match from {
-            Some(k) if k < 256 && hops < 16 && k * 16 + hops < self.levels.len() => self.levels[k * 16 + hops],
-            _ => 0,
+        let Some(k) = from else {
+            return 0;
+        };
+        if hops >= 16 {
+            return 0;
         }
+        // cannot be: frames are numbered below 256, and 4,096 levels are there
+        if k >= 256 || k * 16 + hops >= self.levels.len() {
+            return 0;
+        }
+        self.levels[k * 16 + hops]
     }
 
     // The frame that lies hops parents outward from a frame.
@@ -92,7 +103,7 @@ impl<'m> Display<'m> {
         if self.walk_out(parent, 15).is_some() {
             return Err(Refusal::ChainTooDeep);
         }
-        // memory that was taken over is long enough
+        // cannot be: the memory is long enough since it was taken over
         if self.levels.len() < 4096 {
             return Err(Refusal::ShortMemory);
         }
@@ -103,6 +114,7 @@ impl<'m> Display<'m> {
 
 pub impl<'m> ReadFrames for Display<'m> as DisplayReadFrames {
     ghost sound = { Sound };
+
     ghost frames = { framesOf };
 
     fn get(&self, hops: usize, offset: usize) -> Result<Slot, Refusal> {
@@ -130,7 +142,7 @@ pub impl<'m> BuildFrames for Display<'m> as DisplayBuildFrames {
     }
 
     fn open(&mut self, n: usize) -> Result<(), Refusal> {
-        let last = self.frame_out(0);
+        let last = self.slots.newest();
         self.grow(last, n)
     }
 

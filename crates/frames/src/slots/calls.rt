@@ -4,9 +4,8 @@ ghost use mathlib.Core.List.{_++_};
 ghost use Prim.Native.Nat.{ℕ, _+_, _≤_, _<_};
 ghost use lib.ListN.{length, getD, take, replicate};
 ghost use Rattle.std.specs.Results.{Cases as ByOk};
-ghost use Rattle.std.specs.Vec.{made};
 ghost use Rattle.frames.specs.Frames.{Frames, none, _▷_, count as frameTotal, total as slotTotal, got, width, grown, fresh, left, written, refused};
-ghost use Rattle.frames.specs.Layout.{before, endOf, Inside, framesIn, partIn, Within, PlacedIn, Reached, Same, LaidOut, Room, shortSlots};
+ghost use Rattle.frames.specs.Layout.{before, endOf, Inside, framesIn, Within, PlacedIn, Reached, Same, LaidOut, Room, shortSlots};
 ghost use Rattle.lang.specs.Refusals.{number};
 use crate::slots::FrameSlots;
 use lang::refusal::Refusal;
@@ -16,12 +15,19 @@ use lang::value::Slot;
 fn inside(start: usize, end: usize, offset: usize) -> Option<usize>
     ensures { λ r. ⌜ Inside start end offset r ⌝ }
 {
-    if offset < end.saturating_sub(start) { Some(start + offset) } else { None }
+    if offset < end.saturating_sub(start) {
+        Some(start + offset)
+    } else {
+        None
+    }
 }
 
 impl<'m> FrameSlots<'m> {
     // No frame yet, in what is lent.
-    pub(crate) fn over(starts: &'m mut [u16], cells: &'m mut [Slot]) -> Result<FrameSlots<'m>, Refusal>
+    pub(crate) fn over(
+        starts: &'m mut [u16],
+        cells: &'m mut [Slot],
+    ) -> Result<FrameSlots<'m>, Refusal>
         ensures { λ r. ⌜ ByOk r
             (λ s. (shortSlots (length (now (starts .entry))) (length (now (cells .entry))) ≡ false) × LaidOut s × (s .count ≡ 0) × ((up : ℕ → ℕ) → framesIn up s ≡ none))
             (λ e. (shortSlots (length (now (starts .entry))) (length (now (cells .entry))) ≡ true) × (number e ≡ 1)) ⌝ }
@@ -29,7 +35,12 @@ impl<'m> FrameSlots<'m> {
         if starts.len() < 256 || cells.len() < 2048 {
             return Err(Refusal::ShortMemory);
         }
-        Ok(FrameSlots { starts, cells, count: 0, used: 0 })
+        Ok(FrameSlots {
+            starts,
+            cells,
+            count: 0,
+            used: 0,
+        })
     }
 
     // How many frames stand.
@@ -53,7 +64,11 @@ impl<'m> FrameSlots<'m> {
         ensures within { λ r. ⌜ Within r (now (self .entry) .count) ⌝ }
         ensures all { λ r. ⌜ ((up : ℕ → ℕ) → Reached up (now (self .entry)) r 0) ⌝ }
     {
-        if self.count == 0 { None } else { Some(self.count - 1) }
+        if self.count == 0 {
+            None
+        } else {
+            Some(self.count - 1)
+        }
     }
 
     // Where the slots of the frame numbered k begin.
@@ -61,7 +76,7 @@ impl<'m> FrameSlots<'m> {
         ensures is { λ r. ⌜ (k < length (now (now (self .entry) .starts)) → r ≡ getD (now (now (self .entry) .starts)) k 0) ⌝ }
         ensures few { λ r. ⌜ r < 65536 ⌝ }
     {
-        // a frame that stands has its start
+        // cannot be: each frame that stands has its start
         if k >= self.starts.len() {
             return 0;
         }
@@ -72,6 +87,7 @@ impl<'m> FrameSlots<'m> {
     fn end_of(&self, k: usize) -> usize
         ensures { λ r. ⌜ (LaidOut (now (self .entry)) → k < now (self .entry) .count → r ≡ endOf (now (now (self .entry) .starts)) (now (self .entry) .count) (now (self .entry) .used) k) ⌝ }
     {
+        // only frames that stand are asked for, so the first test is never met
         if k >= self.count || k + 1 == self.count {
             self.used
         } else {
@@ -112,21 +128,28 @@ impl<'m> FrameSlots<'m> {
     {
         match self.place(frame, offset) {
             Some(p) if p < self.cells.len() => Ok(self.cells[p]),
+            // there is none: a place is always within the memory
             _ => Err(Refusal::NoSuchSlot),
         }
     }
 
     // Writes a frame's slot; 28 where there is none.
-    pub(crate) fn put(&mut self, frame: Option<usize>, offset: usize, value: Slot) -> Result<(), Refusal>
+    pub(crate) fn put(
+        &mut self,
+        frame: Option<usize>,
+        offset: usize,
+        value: Slot,
+    ) -> Result<(), Refusal>
         ensures { λ r. ⌜ (LaidOut (now (self .entry)) → Within frame (now (self .entry) .count) → (up : ℕ → ℕ) (h : ℕ) → Reached up (now (self .entry)) frame h
             → LaidOut (now (self .exit)) × (now (self .exit) .count ≡ now (self .entry) .count)
-              × (r ≡ written (framesIn up (now (self .entry))) h offset value .answer) × (framesIn up (now (self .exit)) ≡ written (framesIn up (now (self .entry))) h offset value .after)) ⌝ }
+            × (r ≡ written (framesIn up (now (self .entry))) h offset value .answer) × (framesIn up (now (self .exit)) ≡ written (framesIn up (now (self .entry))) h offset value .after)) ⌝ }
     {
         match self.place(frame, offset) {
             Some(p) if p < self.cells.len() => {
                 self.cells[p] = value;
                 Ok(())
             }
+            // there is none: a place is always within the memory
             _ => Err(Refusal::NoSuchSlot),
         }
     }
@@ -174,7 +197,7 @@ impl<'m> FrameSlots<'m> {
         if self.count >= 256 {
             return Err(Refusal::TooManyFrames);
         }
-        // memory that was taken over is long enough, and no more of it is used
+        // cannot be: the memory is long enough since it was taken over, and no more of it is in use
         if self.used > 2048 || self.starts.len() < 256 || self.cells.len() < 2048 {
             return Err(Refusal::ShortMemory);
         }

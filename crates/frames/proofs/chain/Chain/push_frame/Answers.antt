@@ -1,8 +1,8 @@
 use native.Mathlib.Omega.{arith}
-use Prim.Native.Nat.{ℕ, _+_, _<_, _≤_}
+use Prim.Native.Nat.{_+_, _<_, _≤_}
 use mathlib.Core.Path.{sym, ap, _∙_, _≡_, subst}
 use mathlib.Core.Logic.{_≢_}
-use lib.ListN.{length, set, getD, length-set}
+use lib.ListN.{length, set, length-set}
 use denote.Ref.{now}
 use Rattle.std.proofs.shelf.Lists.{getD-set-same, getD-set-other}
 use Rattle.frames.specs.Frames.{_▷_, fresh}
@@ -21,12 +21,14 @@ returns c = λ s w.
     let link = c .encoded .result in
     let few : at ≤ 256 = omega (arith, s .laidOut .few) in
     let u = c .push .ensures (s .laidOut) in
-    let room : at < length ps = omega (arith, c .pre .room .frames) in
-    (record {
-       laidOut = u .0;
-       parentRoom = simp length-set (s .parentRoom);
-       earlier = subst (Earlier (single (set ps at link))) (sym (u .1 ∙ ap (λ j. j + 1) e))
-          (earlier-push ps at link room (c .encoded .ensures .under) (subst (Earlier (single ps)) e (s .earlier))) },
-     u .2 (single ps) (single (set ps at link)) (λ k h. let ne : k ≢ at = omega arith in getD-set-other ps at k link 0 ne)
-     ∙ ap (λ p. framesOf m ▷ fresh (c .args .n) p)
-         (ap before (ap (single (set ps at link)) e ∙ getD-set-same ps at link 0 room) ∙ c .encoded .ensures .is (subst (Within (c .args .parent)) e w) few))
+    let room : at < length ps = omega (arith, c .pre .room .frames) in (
+      record {
+        laidOut = u .0;
+        parentRoom = simp length-set (s .parentRoom);
+        earlier = subst (Earlier (single (set ps at link))) (sym (u .1 ∙ ap (λ j. j + 1) e))
+            (earlier-push ps at link room (c .encoded .ensures .under) (subst (Earlier (single ps)) e (s .earlier)));
+      },
+      u .2 (single ps) (single (set ps at link)) (λ k h. let ne : k ≢ at = omega arith in getD-set-other ps at k link 0 ne)
+          ∙ ap (λ p. framesOf m ▷ fresh (c .args .n) p)
+          (ap before (ap (single (set ps at link)) e ∙ getD-set-same ps at link 0 room) ∙ c .encoded .ensures .is (subst (Within (c .args .parent)) e w) few),
+    )

@@ -31,8 +31,9 @@ loop-left-again c = λ s w.
     let i = c .loop-left .inv s w in
     let k = c .in-Some .k in
     let at : k < m .slots .count = subst (λ r. Within r (m .slots .count)) (c .in-Some .is) (i .1) in
-    let p = c .parent-at .ensures s at in
-    (ap (λ r. walk (c .loop-left .left - 1) (partOf m r)) (p .0)
-       ∙ turn m k (c .loop-left .left) s (omega arith) at
-       ∙ ap (λ r. walk (c .loop-left .left) (partOf m r)) (sym (c .in-Some .is)) ∙ i .0,
-     within-more (c .parent-at .result) k (m .slots .count) (p .1) (omega arith))
+    let p = c .parent-at .ensures s at in (
+      ap (λ r. walk (c .loop-left .left - 1) (partOf m r)) (p .0)
+          ∙ turn m k (c .loop-left .left) s (omega arith) at
+          ∙ ap (λ r. walk (c .loop-left .left) (partOf m r)) (sym (c .in-Some .is)) ∙ i .0,
+      within-more (c .parent-at .result) k (m .slots .count) (p .1) (omega arith),
+    )

@@ -25,19 +25,21 @@ module _ (m : Display) (from : Option ℕ) (h x : ℕ) (s : Sound m) (w : Within
   near l e =
       let t = m .slots in
       let u = under in
-      let a = above-under (now (m .levels)) (now (t .starts)) (now (t .cells)) (t .count) (t .used) (s .own) (s .rows) (s .shortRows) (s .earlier) h (linkOf from) l under in
-      (ap (λ j. partOf m (before j)) e
-        ∙ sym (reach (now (m .levels)) (now (t .starts)) (now (t .cells)) (t .count) (t .used) (s .own) (s .rows) (s .shortRows) (s .earlier) h (linkOf from) l under)
-        ∙ ap (λ r. walk h (partOf m r)) (before-link from),
-       within-before x (t .count) (omega arith))
+      let a = above-under (now (m .levels)) (now (t .starts)) (now (t .cells)) (t .count) (t .used) (s .own) (s .rows) (s .shortRows) (s .earlier) h (linkOf from) l under in (
+        ap (λ j. partOf m (before j)) e
+            ∙ sym (reach (now (m .levels)) (now (t .starts)) (now (t .cells)) (t .count) (t .used) (s .own) (s .rows) (s .shortRows) (s .earlier) h (linkOf from) l under)
+            ∙ ap (λ r. walk h (partOf m r)) (before-link from),
+        within-before x (t .count) (omega arith),
+      )
 
   far : 16 ≤ h → x ≡ 0 → Out
   far l e =
-      let t = m .slots in
-      (ap (λ j. partOf m (before j)) e
-        ∙ sym (beyond (now (m .levels)) (now (t .starts)) (now (t .cells)) (t .count) (t .used) (s .own) (s .rows) (s .shortRows) (s .earlier) h (linkOf from) l under)
-        ∙ ap (λ r. walk h (partOf m r)) (before-link from),
-       within-before x (t .count) (omega arith))
+      let t = m .slots in (
+        ap (λ j. partOf m (before j)) e
+            ∙ sym (beyond (now (m .levels)) (now (t .starts)) (now (t .cells)) (t .count) (t .used) (s .own) (s .rows) (s .shortRows) (s .earlier) h (linkOf from) l under)
+            ∙ ap (λ r. walk h (partOf m r)) (before-link from),
+        within-before x (t .count) (omega arith),
+      )
 
 pub returns : need.returns
 returns c = λ s w.
@@ -48,7 +50,7 @@ returns c = λ s w.
     let e = c .level-above .ensures in
     let few : m .slots .count ≤ 256 = s .laidOut .few in
     let out : Out m from h x s w = ⊎-elim
-          (λ (l : h < 16). near m from h x s w l (e .near (s .levelRoom) (within-more from (m .slots .count) 256 w few) l))
-          (λ (l : 16 ≤ h). far m from h x s w l (e .far l))
-          (cases-lt h 16) in
+    (λ (l : h < 16). near m from h x s w l (e .near (s .levelRoom) (within-more from (m .slots .count) 256 w few) l))
+    (λ (l : 16 ≤ h). far m from h x s w l (e .far l))
+    (cases-lt h 16) in
     subst (λ r. (partOf m r ≡ walk h (partOf m from)) × Within r (m .slots .count)) (sym (c .decoded .ensures)) out

@@ -1,10 +1,7 @@
 use native.Mathlib.Omega.{arith}
-use Prim.Native.Nat.{ℕ, _+_, _<_, _≤_}
-use mathlib.Core.Path.{_≡_}
 use denote.Ref.{now}
-use Rattle.frames.specs.Frames.{count, total}
-use Rattle.frames.specs.Layout.{framesIn, LaidOut}
-use Rattle.frames.specs.declared.slots.FrameSlots.{FrameSlots}
+use Rattle.frames.specs.Frames.{count}
+use Rattle.frames.specs.Layout.{framesIn}
 use Rattle.frames.proofs.Laid.{count-laid, total-laid, grown-frames, grown-slots}
 use Rattle.frames.proofs.slots.FrameSlots.check_room.Needs as need
 

@@ -1,5 +1,5 @@
 use native.Mathlib.Omega.{arith}
-use mathlib.Core.Path.{sym, _∙_, ap, _≡_}
+use mathlib.Core.Path.{_∙_, ap, _≡_}
 use denote.Ref.{now}
 use Prim.Native.Nat.{_-_}
 use Rattle.std.specs.declared.option.Option.the-variants.{Some}
@@ -14,4 +14,5 @@ returns-else-self-eq0 c =
     record {
       is = e;
       within = omega arith;
-      all = λ up. ap (partIn up m) e ∙ part-all up (now (m .starts)) (now (m .cells)) (m .count) (m .used) }
+      all = λ up. ap (partIn up m) e ∙ part-all up (now (m .starts)) (now (m .cells)) (m .count) (m .used);
+    }

@@ -16,4 +16,4 @@ returns-in-Some c = λ s w up h e.
     let f : Reached up m (Some k) h = ap (partIn up m) (sym (c .in-Some .is)) ∙ e in
     let st : c .start-of-start .result ≡ getD (now (m .starts)) k 0 = c .start-of-start .ensures .is (omega (arith, s .few, s .startRoom)) in
     placed-at up (now (m .starts)) (now (m .cells)) (m .count) (m .used) (s .rising) (omega (arith, s .small, s .cellRoom)) h k (c .args .offset) (c .start-of-start .result) (c .end-of-end .result) (c .inside .result)
-        f lt st (c .end-of-end .ensures s lt) (c .inside .ensures)
+    f lt st (c .end-of-end .ensures s lt) (c .inside .ensures)
