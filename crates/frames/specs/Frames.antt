@@ -20,7 +20,6 @@ pub record Frame : Type 0 where
   pub parent : Option ℕ
 
 infixl 20 _▷_
-
 pub data Frames : Type 0 where
   none : Frames
   _▷_ : Frames → Frame → Frames

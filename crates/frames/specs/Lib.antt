@@ -1,1 +1,5 @@
 pub mod Frames
+pub mod Layout
+pub mod Chains
+pub mod Displays
+pub mod Passages

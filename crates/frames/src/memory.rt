@@ -6,6 +6,7 @@ use lang::value::Slot;
 // The reading half of a frame memory. A sound memory means a list of frames, oldest first.
 pub trait ReadFrames {
     ghost sound: { Self → Type 0 };
+
     ghost frames: { Self → Frames };
 
     // The slot at a pair of hops outward from the last frame and offset; 28 where there is none.
