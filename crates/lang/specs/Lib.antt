@@ -5,3 +5,5 @@ pub mod Instructions
 pub mod Names
 pub mod Stacks
 pub mod Codes
+pub mod Bytes
+pub mod Words
