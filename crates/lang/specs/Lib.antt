@@ -6,3 +6,5 @@ pub mod Names
 pub mod Stacks
 pub mod Codes
 pub mod Sheets
+pub mod Bytes
+pub mod Words

@@ -7,3 +7,6 @@ pub mod name;
 pub mod sheet;
 pub mod stack;
 pub mod code;
+pub mod word;
+pub mod byte;
+pub mod reserved;
