@@ -1,2 +1,4 @@
 pub mod Held
 pub mod Padded
+pub mod Scans
+pub mod Sheets

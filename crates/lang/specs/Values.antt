@@ -1,4 +1,5 @@
 -- Values, their kinds, and the slots that hold them.
+use mathlib.Core.Bool.{Bool, true, false}
 use Rattle.std.specs.declared.option.Option.{Option}
 use Rattle.std.specs.declared.option.Option.the-variants.{Some, None}
 use Rattle.lang.specs.declared.value.Kind.{Kind}
@@ -24,3 +25,10 @@ valueIn slot.Unset = None
 valueIn (slot.Number z) = Some (value.Number z)
 valueIn (slot.Truth b) = Some (value.Truth b)
 valueIn (slot.Position k) = None
+
+-- whether two values are of one kind
+abbrev pub alike : Value → Value → Bool
+alike (value.Number y) (value.Number z) = true
+alike (value.Number y) (value.Truth b) = false
+alike (value.Truth a) (value.Number z) = false
+alike (value.Truth a) (value.Truth b) = true

@@ -23,4 +23,15 @@ pub struct Sheet {
     count: usize,
 }
 
+// An entry as the host gives it: kind 0 is a number and 1 a truth, whose value is 0 or 1; mark 0 is given and 1 kept.
+#[derive(Clone, Copy)]
+pub struct Described<'t> {
+    pub name: &'t [u8],
+    pub kind: u8,
+    pub mark: u8,
+    pub value: i64,
+}
+
+pub mod entries;
+
 pub mod calls;

@@ -1,5 +1,5 @@
 ghost use mathlib.Core.Path.{_≡_};
-ghost use Rattle.lang.specs.Values.{kindOf, slotOf, valueIn};
+ghost use Rattle.lang.specs.Values.{kindOf, slotOf, valueIn, alike as sameKind};
 
 // The two kinds of value.
 #[derive(Clone, Copy, PartialEq, Eq, Debug)]
@@ -31,6 +31,18 @@ impl Value {
         match self {
             Value::Number(_) => Kind::Number,
             Value::Truth(_) => Kind::Truth,
+        }
+    }
+
+    // Whether two values are of one kind.
+    pub fn alike(self, other: Value) -> bool
+        ensures { λ r. ⌜ r ≡ sameKind self other ⌝ }
+    {
+        match (self, other) {
+            (Value::Number(_), Value::Number(_)) => true,
+            (Value::Truth(_), Value::Truth(_)) => true,
+            (Value::Number(_), Value::Truth(_)) => false,
+            (Value::Truth(_), Value::Number(_)) => false,
         }
     }
 
