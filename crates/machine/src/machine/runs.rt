@@ -1,0 +1,174 @@
+ghost use Prim.Native.Nat.{_<_};
+use crate::machine::Machine;
+use crate::outcome::Act;
+use crate::outcome::Outcome;
+use crate::outcome::Ran;
+use crate::outcome::Step;
+use frames::memory::BuildFrames;
+use frames::memory::ReadFrames;
+use lang::code::Code;
+use lang::fault::Fault;
+use lang::instruction::Instruction;
+use lang::refusal::Refusal;
+use lang::stack::Stack;
+use lang::value::Slot;
+use lang::value::Value;
+
+// The most steps of a run.
+pub const MOST_STEPS: u32 = 1_000_000;
+
+// The values go into the slots of the last frame.
+fn put_all<F: BuildFrames + Drop>(frames: &mut F, values: &[Value]) {
+    for o in 0..values.len() {
+        let _ = frames.put(0, o, values[o].slot());
+    }
+}
+
+impl<'m, F: BuildFrames + Drop> Machine<'m, F> {
+    // A machine in memory for 512 waiting values and 256 return positions; 1 where either is shorter.
+    pub fn over(
+        values: &'m mut [Value],
+        returns: &'m mut [u16],
+        frames: F,
+    ) -> Result<Machine<'m, F>, Refusal> {
+        if values.len() < 512 || returns.len() < 256 {
+            return Err(Refusal::ShortMemory);
+        }
+        Ok(Machine {
+            values: Stack::over(values),
+            returns: Stack::over(returns),
+            frames,
+            at: 0,
+            steps: 0,
+        })
+    }
+
+    // Starts again: the first position, no steps, no values, and one frame that holds the starting values.
+    pub fn begin(&mut self, starting: &[Value]) -> Result<(), Refusal> {
+        self.at = 0;
+        self.steps = 0;
+        self.values.clear();
+        self.returns.clear();
+        self.frames.clear();
+        self.frames.open(starting.len())?;
+        put_all(&mut self.frames, starting);
+        Ok(())
+    }
+
+    // No frame stands any more.
+    pub fn clear(&mut self) {
+        self.frames.clear();
+    }
+
+    // The slot at a pair; 28 where there is none.
+    pub fn look(&self, hops: usize, offset: usize) -> Result<Slot, Refusal> {
+        self.frames.get(hops, offset)
+    }
+
+    // The value of an entry, while the first frame is the last one.
+    pub fn entry(&self, number: usize) -> Option<Value> {
+        match self.frames.get(0, number) {
+            Ok(slot) => slot.value(),
+            Err(_) => None,
+        }
+    }
+
+    // What one instruction does.
+    fn perform(&mut self, what: Instruction) -> Act
+        requires { ⌜ now self .at < 65535 ⌝ }
+    {
+        match what {
+            Instruction::Push(v) => self.give(v),
+            Instruction::Load { hops, offset } => self.load(hops, offset),
+            Instruction::Minus => self.minus(),
+            Instruction::Not => self.not(),
+            Instruction::Add => self.add(),
+            Instruction::Sub => self.sub(),
+            Instruction::Mul => self.mul(),
+            Instruction::Equal => self.equal(),
+            Instruction::Less => self.less(),
+            Instruction::And => self.and(),
+            Instruction::Or => self.or(),
+            Instruction::Pick { by } => self.pick(by),
+            Instruction::Fork { by } => self.pick(by),
+            Instruction::Skip { by } => self.skip(by),
+            Instruction::Leave { by } => self.pick(by),
+            Instruction::Again { by } => self.again(by),
+            Instruction::Open { slots } => self.open(slots),
+            Instruction::Fill { offset, .. } => self.fill(offset),
+            Instruction::Shut => self.shut(),
+            Instruction::Fun { offset, by, .. } => self.routine(offset, by),
+            Instruction::Proc { offset, by, .. } => self.routine(offset, by),
+            Instruction::Call {
+                hops,
+                offset,
+                count,
+            } => self.call(hops, offset, count),
+            Instruction::Do {
+                hops,
+                offset,
+                count,
+            } => self.call(hops, offset, count),
+            Instruction::Back => self.back(),
+            Instruction::Store { hops, offset } => self.store(hops, offset),
+            Instruction::Let => self.open(1),
+        }
+    }
+
+    // The fault or none of an instruction: a step is counted, then checked; past the last step none is.
+    fn counted(&mut self, what: Instruction) -> Act {
+        if self.steps >= MOST_STEPS {
+            return Act::Stop(Fault::Steps);
+        }
+        if self.at >= 65535 {
+            return Act::Stuck; // no code has over 12,288 instructions
+        }
+        self.steps += 1;
+        self.perform(what)
+    }
+
+    // One step.
+    pub fn step(&mut self, code: &Code) -> Step {
+        let at = self.at;
+        match code.instruction(at) {
+            None => Step::Ended,
+            Some(what) => match self.counted(what) {
+                Act::On => Step::On,
+                Act::Stuck => Step::Stuck,
+                Act::Stop(fault) => match code.place(at) {
+                    Some(place) => Step::Stop { fault, place },
+                    None => Step::Stuck, // each instruction has a place
+                },
+            },
+        }
+    }
+
+    // As many steps as the budget has, or fewer where the run ends before.
+    pub fn run(&mut self, code: &Code, budget: u32) -> Ran {
+        let before = self.steps;
+        for _i in 0..budget {
+            match self.step(code) {
+                Step::On => {}
+                Step::Ended => return self.ran(Outcome::Done, before),
+                Step::Stop { fault, place } => return self.ran(
+                    Outcome::Fault { fault, place },
+                    before,
+                ),
+                Step::Stuck => return self.ran(Outcome::Stuck, before),
+            }
+        }
+        if self.at < code.len() {
+            self.ran(Outcome::Paused, before)
+        } else {
+            self.ran(Outcome::Done, before)
+        }
+    }
+
+    // An outcome with the steps done since.
+    fn ran(&self, outcome: Outcome, before: u32) -> Ran {
+        Ran {
+            outcome,
+            steps: self.steps.saturating_sub(before),
+        }
+    }
+}
