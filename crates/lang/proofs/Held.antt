@@ -3,10 +3,10 @@ use Prim.Native.Nat.{ℕ, zero, suc, _+_, _-_, _<_, _≤_}
 use mathlib.Core.Path.{_≡_, refl, sym, ap, _∙_}
 use mathlib.Core.List.{List, [], _∷_, _++_, reverse}
 use native.Mathlib.Omega.{arith}
-use lib.ListN.{length, getD, take, set}
+use lib.ListN.{length, getD, take, set, replicate}
 use Rattle.std.specs.Finite.{nth}
 use Rattle.std.specs.declared.option.Option.the-variants.{Some, None}
-use Rattle.std.proofs.shelf.Lists.{take-more, take-more-set, reverse-append, length-take-le}
+use Rattle.std.proofs.shelf.Lists.{take-more, take-more-set, reverse-append, length-take-le, take-all, replicate-more}
 use Rattle.lang.specs.Stacks.{newest}
 
 module _ {T : Type 0} where
@@ -78,3 +78,10 @@ module _ {T : Type 0} where
   nth-short (suc n) [] i h = refl
   nth-short (suc n) (x ∷ xs) zero h = absurd (omega arith)
   nth-short (suc n) (x ∷ xs) (suc i) h = nth-short n xs i (omega arith)
+
+  -- one cell more is x
+  pub wiped-more : (xs : List T) (n : ℕ) (x : T) → n < length xs → take n xs ≡ replicate n x → take (n + 1) (set xs n x) ≡ replicate (n + 1) x
+  wiped-more xs n x h e = take-more-set xs n x h ∙ ap (λ ys. ys ++ (x ∷ [])) e ∙ replicate-more n x
+
+  pub wiped-all : (xs : List T) (n m : ℕ) (x : T) → length xs ≡ m → m ≤ n → n ≤ m → take n xs ≡ replicate n x → xs ≡ replicate m x
+  wiped-all xs n m x l h k e = let q : n ≡ m = omega arith in sym (take-all n xs (omega arith)) ∙ e ∙ ap (λ j. replicate j x) q

@@ -1,7 +1,7 @@
 ghost use mathlib.Core.Path.{_≡_};
 ghost use mathlib.Core.List.{[], _∷_};
 ghost use Prim.Native.Nat.{_<_, _≤_};
-ghost use lib.ListN.{length, set, take};
+ghost use lib.ListN.{length, replicate, set, take};
 ghost use denote.Ref.{now as behind};
 ghost use Rattle.std.specs.Finite.{nth};
 ghost use Rattle.lang.specs.Stacks.{held, items, Pushed, Popped, newest, Truncated};
@@ -103,5 +103,15 @@ impl<'m, T: Copy> Stack<'m, T> {
         ensures { λ _. ⌜ (held (now (self .exit)) ≡ []) × (items (now (self .exit)) ≡ []) × (behind (now (self .exit) .cells) ≡ behind (now (self .entry) .cells)) ⌝ }
     {
         self.used = 0;
+    }
+
+    // Every cell becomes x, and none is held.
+    pub fn wipe(&mut self, x: T)
+        ensures { λ _. ⌜ (held (now (self .exit)) ≡ []) × (items (now (self .exit)) ≡ []) × (behind (now (self .exit) .cells) ≡ replicate (length (behind (now (self .entry) .cells))) x) ⌝ }
+    {
+        self.used = 0;
+        for i in 0..self.cells.len() {
+            self.cells[i] = x;
+        }
     }
 }
