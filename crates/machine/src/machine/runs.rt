@@ -1,4 +1,15 @@
+ghost use mathlib.Core.Path.{_≡_};
+ghost use mathlib.Core.Bool.{true, false};
 ghost use Prim.Native.Nat.{_<_};
+ghost use lib.ListN.{length};
+ghost use Rattle.std.specs.Results.{Cases as ByOk};
+ghost use Rattle.std.specs.declared.option.Option.the-variants.{Some};
+ghost use Rattle.std.specs.declared.result.Result.the-variants.{Ok};
+ghost use Rattle.lang.specs.Refusals.{number};
+ghost use Rattle.frames.specs.Frames.{none, got, opened};
+ghost use Rattle.meaning.specs.Machine.{act, fetched};
+ghost use Rattle.machine.specs.Shows.{seen, Ready, Did, acted, Counted, short, begun, valueGot};
+ghost use Rattle.machine.specs.Runs.{Counted as CountedBy, Steps, Runs};
 use crate::machine::Machine;
 use crate::outcome::Act;
 use crate::outcome::Outcome;
@@ -56,18 +67,24 @@ impl<'m, F: BuildFrames + Drop> Machine<'m, F> {
     }
 
     // No frame stands any more.
-    pub fn clear(&mut self) {
+    pub fn clear(&mut self)
+        ensures { λ _. ⌜ (Ready (F·ReadFrames .sound) (now (self .entry)) → Ready (F·ReadFrames .sound) (now (self .exit)) × (F·ReadFrames .frames (now (self .exit) .frames) ≡ none)) ⌝ }
+    {
         self.frames.clear();
     }
 
     // The slot at a pair; 28 where there is none.
-    pub fn look(&self, hops: usize, offset: usize) -> Result<Slot, Refusal> {
+    pub fn look(&self, hops: usize, offset: usize) -> Result<Slot, Refusal>
+        ensures { λ r. ⌜ (Ready (F·ReadFrames .sound) (now (self .entry)) → r ≡ got (F·ReadFrames .frames (now (self .entry) .frames)) hops offset) ⌝ }
+    {
         self.frames.get(hops, offset)
     }
 
     // The value of an entry, while the first frame is the last one.
-    pub fn entry(&self, number: usize) -> Option<Value> {
-        match self.frames.get(0, number) {
+    pub fn entry(&self, k: usize) -> Option<Value>
+        ensures { λ r. ⌜ (Ready (F·ReadFrames .sound) (now (self .entry)) → r ≡ valueGot (got (F·ReadFrames .frames (now (self .entry) .frames)) 0 k)) ⌝ }
+    {
+        match self.frames.get(0, k) {
             Ok(slot) => slot.value(),
             Err(_) => None,
         }
@@ -76,6 +93,7 @@ impl<'m, F: BuildFrames + Drop> Machine<'m, F> {
     // What one instruction does.
     fn perform(&mut self, what: Instruction) -> Act
         requires { ⌜ now self .at < 65535 ⌝ }
+        ensures { λ r. ⌜ Did (F·ReadFrames .sound) (F·ReadFrames .frames) (now (self .entry)) (now (self .exit)) r (act what) ⌝ }
     {
         match what {
             Instruction::Push(v) => self.give(v),
@@ -115,60 +133,55 @@ impl<'m, F: BuildFrames + Drop> Machine<'m, F> {
         }
     }
 
-    // The fault or none of an instruction: a step is counted, then checked; past the last step none is.
-    fn counted(&mut self, what: Instruction) -> Act {
+    // A step is counted, then checked; with all steps done the next is a fault and not counted.
+    fn counted(&mut self, what: Instruction) -> Act
+        requires { ⌜ now self .at < 65535 ⌝ }
+        ensures { λ r. ⌜ Counted r (now (self .entry) .steps) (now (self .exit) .steps) × (Ready (F·ReadFrames .sound) (now (self .entry)) → Ready (F·ReadFrames .sound) (now (self .exit)) × ((p : _) → acted r p (seen (F·ReadFrames .frames) (now (self .exit))) ≡ fetched (Some (what, p)) (seen (F·ReadFrames .frames) (now (self .entry))))) ⌝ }
+    {
         if self.steps >= MOST_STEPS {
             return Act::Stop(Fault::Steps);
-        }
-        if self.at >= 65535 {
-            return Act::Stuck; // no code has over 12,288 instructions
         }
         self.steps += 1;
         self.perform(what)
     }
 
     // One step.
-    pub fn step(&mut self, code: &Code) -> Step {
+    pub fn step(&mut self, code: &Code) -> Step
+        ensures { λ r. ⌜ CountedBy r (now (self .entry) .steps) (now (self .exit) .steps) × Steps (F·ReadFrames .sound) (F·ReadFrames .frames) (now (code .entry)) (now (self .entry)) (now (self .exit)) r ⌝ }
+    {
         let at = self.at;
         match code.instruction(at) {
             None => Step::Ended,
-            Some(what) => match self.counted(what) {
-                Act::On => Step::On,
-                Act::Stuck => Step::Stuck,
-                Act::Stop(fault) => match code.place(at) {
-                    Some(place) => Step::Stop { fault, place },
-                    None => Step::Stuck, // each instruction has a place
-                },
-            },
+            Some(what) => {
+                if at >= 65535 {
+                    return Step::Stuck; // no rule has so many instructions
+                }
+                match self.counted(what) {
+                    Act::On => Step::On,
+                    Act::Stuck => Step::Stuck,
+                    Act::Stop(fault) => match code.place(at) {
+                        Some(place) => Step::Stop { fault, place },
+                        None => Step::Stuck, // each instruction has a place
+                    },
+                }
+            }
         }
     }
 
     // As many steps as the budget has, or fewer where the run ends before.
-    pub fn run(&mut self, code: &Code, budget: u32) -> Ran {
+    pub fn run(&mut self, code: &Code, budget: u32) -> Ran
+        ensures { λ r. ⌜ Runs (F·ReadFrames .sound) (F·ReadFrames .frames) (now (code .entry)) budget (now (self .entry)) (now (self .exit)) r ⌝ }
+    {
         let before = self.steps;
-        for _i in 0..budget {
+        for i in 0..budget {
             match self.step(code) {
                 Step::On => {}
-                Step::Ended => return self.ran(Outcome::Done, before),
-                Step::Stop { fault, place } => return self.ran(
-                    Outcome::Fault { fault, place },
-                    before,
-                ),
-                Step::Stuck => return self.ran(Outcome::Stuck, before),
+                Step::Ended => return Ran { outcome: Outcome::Done, steps: i },
+                Step::Stop { fault, place } => return Ran { outcome: Outcome::Fault { fault, place }, steps: self.steps - before },
+                Step::Stuck => return Ran { outcome: Outcome::Stuck, steps: i },
             }
         }
-        if self.at < code.len() {
-            self.ran(Outcome::Paused, before)
-        } else {
-            self.ran(Outcome::Done, before)
-        }
-    }
-
-    // An outcome with the steps done since.
-    fn ran(&self, outcome: Outcome, before: u32) -> Ran {
-        Ran {
-            outcome,
-            steps: self.steps.saturating_sub(before),
-        }
+        let outcome = if self.at < code.len() { Outcome::Paused } else { Outcome::Done };
+        Ran { outcome, steps: budget }
     }
 }

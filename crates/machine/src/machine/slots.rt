@@ -1,28 +1,38 @@
-ghost use Prim.Native.Nat.{_<_};
+ghost use mathlib.Core.Path.{_≡_};
+ghost use Prim.Native.Nat.{_+_, _<_};
+ghost use Rattle.lang.specs.Stacks.{items, room};
+ghost use Rattle.lang.specs.Values.{slotOf, valueIn};
+ghost use Rattle.frames.specs.Frames.{written};
+ghost use Rattle.meaning.specs.Operators.{alike as oneKind};
+ghost use Rattle.meaning.specs.Machine.{act, on, built, filling, storedOver, faultOf, refusedBy, answered, moved, calledAt};
+ghost use Rattle.machine.specs.Shows.{Did, acted, movedBy};
 use crate::machine::Machine;
 use crate::outcome::Act;
 use frames::memory::BuildFrames;
 use frames::memory::ReadFrames;
 use lang::fault::Fault;
+use lang::instruction::Instruction;
 use lang::refusal::Refusal;
 use lang::stack::Stack;
 use lang::value::Slot;
 use lang::value::Value;
 
-// Whether a slot holds a value of the same kind.
-fn alike(there: Result<Slot, Refusal>, v: Value) -> Option<bool> {
-    match (there, v) {
-        (Ok(Slot::Number(_)), Value::Number(_)) => Some(true),
-        (Ok(Slot::Number(_)), Value::Truth(_)) => Some(false),
-        (Ok(Slot::Truth(_)), Value::Number(_)) => Some(false),
-        (Ok(Slot::Truth(_)), Value::Truth(_)) => Some(true),
-        _ => None,
+// Whether two values have one kind.
+fn alike(u: Value, v: Value) -> bool
+    ensures { λ r. ⌜ r ≡ oneKind u v ⌝ }
+{
+    match (u, v) {
+        (Value::Number(_), Value::Number(_)) => true,
+        (Value::Truth(_), Value::Truth(_)) => true,
+        _ => false,
     }
 }
 
 // What a frame memory's refusal does to a run. Checked code names slots that stand, and its frames
 // nest at most 16 deep.
-fn refused(why: Refusal) -> Act {
+fn refused(why: Refusal) -> Act
+    ensures { λ r. ⌜ ((p : _) (m : _) → acted r p m ≡ refusedBy (faultOf why) p m) ⌝ }
+{
     match why {
         Refusal::TooManyFrames => Act::Stop(Fault::Frames),
         Refusal::TooManySlots => Act::Stop(Fault::Slots),
@@ -31,7 +41,9 @@ fn refused(why: Refusal) -> Act {
 }
 
 // The newest values move into the last frame, the newest into its last slot; false where too few wait.
-fn move_args<F: BuildFrames + Drop>(values: &mut Stack<Value>, frames: &mut F, count: u8) -> bool {
+fn move_args<F: BuildFrames + Drop>(values: &mut Stack<Value>, frames: &mut F, count: u8) -> bool
+    ensures { λ r. ⌜ (F·ReadFrames .sound (now (frames .entry)) → F·ReadFrames .sound (now (frames .exit)) × (room (now (values .exit)) ≡ room (now (values .entry))) × (movedBy r (items (now (values .exit))) (F·ReadFrames .frames (now (frames .exit))) ≡ moved count (items (now (values .entry))) (F·ReadFrames .frames (now (frames .entry))))) ⌝ }
+{
     let mut left = count as usize;
     while left > 0 {
         match values.pop() {
@@ -50,6 +62,7 @@ impl<'m, F: BuildFrames + Drop> Machine<'m, F> {
     // The next instruction, if the frame memory did not refuse.
     fn go_on(&mut self, answer: Result<(), Refusal>, by: usize) -> Act
         requires { ⌜ now self .at < 65535 ⌝ ∗ ⌜ by < 65536 ⌝ }
+        ensures { λ r. ⌜ Did (F·ReadFrames .sound) (F·ReadFrames .frames) (now (self .entry)) (now (self .exit)) r (λ p m. answered answer (on (m .at + by) (m .values) m) p m) ⌝ }
     {
         match answer {
             Ok(()) => {
@@ -60,47 +73,68 @@ impl<'m, F: BuildFrames + Drop> Machine<'m, F> {
         }
     }
 
+    // A value goes into a slot.
+    fn put_value(&mut self, hops: usize, offset: u8, v: Value) -> Act
+        requires { ⌜ now self .at < 65535 ⌝ }
+        ensures { λ r. ⌜ Did (F·ReadFrames .sound) (F·ReadFrames .frames) (now (self .entry)) (now (self .exit)) r (λ p m. built (m .at + 1) (m .values) (written (m .frames) hops offset (slotOf v)) p m) ⌝ }
+    {
+        let answer = self.frames.put(hops, offset as usize, v.slot());
+        self.go_on(answer, 1)
+    }
+
     pub(super) fn load(&mut self, hops: u8, offset: u8) -> Act
         requires { ⌜ now self .at < 65535 ⌝ }
+        ensures { λ r. ⌜ Did (F·ReadFrames .sound) (F·ReadFrames .frames) (now (self .entry)) (now (self .exit)) r (act (Instruction.Load hops offset)) ⌝ }
     {
         match self.frames.get(hops as usize, offset as usize) {
-            Ok(Slot::Number(z)) => self.give(Value::Number(z)),
-            Ok(Slot::Truth(b)) => self.give(Value::Truth(b)),
-            _ => Act::Stuck, // in checked code the slot of a name that is read holds a value
+            Err(_) => Act::Stuck, // in checked code a name has a slot
+            Ok(slot) => match slot.value() {
+                None => Act::Stuck, // that holds a value where the name is read
+                Some(v) => self.give(v),
+            },
         }
     }
 
     pub(super) fn fill(&mut self, offset: u8) -> Act
         requires { ⌜ now self .at < 65535 ⌝ }
+        ensures { λ r. ⌜ Did (F·ReadFrames .sound) (F·ReadFrames .frames) (now (self .entry)) (now (self .exit)) r (λ p m. filling offset (m .values) p m) ⌝ }
     {
         match self.values.pop() {
             None => Act::Stuck, // in checked code the value of a datum waits
-            Some(v) => {
-                let answer = self.frames.put(0, offset as usize, v.slot());
-                self.go_on(answer, 1)
-            }
+            Some(v) => self.put_value(0, offset, v),
         }
     }
 
     pub(super) fn store(&mut self, hops: u8, offset: u8) -> Act
         requires { ⌜ now self .at < 65535 ⌝ }
+        ensures { λ r. ⌜ Did (F·ReadFrames .sound) (F·ReadFrames .frames) (now (self .entry)) (now (self .exit)) r (act (Instruction.Store hops offset)) ⌝ }
     {
         match self.values.pop() {
             None => Act::Stuck, // in checked code the value that is assigned waits
-            Some(v) => match alike(self.frames.get(hops as usize, offset as usize), v) {
-                None => Act::Stuck, // in checked code the slot of a variable holds a value
-                Some(false) => Act::Stop(Fault::Kind),
-                Some(true) => {
-                    let answer = self.frames.put(hops as usize, offset as usize, v.slot());
-                    self.go_on(answer, 1)
-                }
+            Some(v) => match self.frames.get(hops as usize, offset as usize) {
+                Err(_) => Act::Stuck, // in checked code a variable has a slot
+                Ok(slot) => self.store_over(slot, hops, offset, v),
             },
+        }
+    }
+
+    // A value takes the place of another of its kind.
+    fn store_over(&mut self, slot: Slot, hops: u8, offset: u8, v: Value) -> Act
+        requires { ⌜ now self .at < 65535 ⌝ }
+        ensures { λ r. ⌜ Did (F·ReadFrames .sound) (F·ReadFrames .frames) (now (self .entry)) (now (self .exit)) r (λ p m. storedOver (valueIn slot) v (built (m .at + 1) (m .values) (written (m .frames) hops offset (slotOf v)) p m) p m) ⌝ }
+    {
+        match slot.value() {
+            None => Act::Stuck, // in checked code the slot of a variable holds a value
+            Some(u) => {
+                if alike(u, v) { self.put_value(hops as usize, offset, v) } else { Act::Stop(Fault::Kind) }
+            }
         }
     }
 
     // A new last frame, for a let and for a block.
     pub(super) fn open(&mut self, slots: u8) -> Act
         requires { ⌜ now self .at < 65535 ⌝ }
+        ensures { λ r. ⌜ Did (F·ReadFrames .sound) (F·ReadFrames .frames) (now (self .entry)) (now (self .exit)) r (act (Instruction.Open slots)) ⌝ }
     {
         let answer = self.frames.open(slots as usize);
         self.go_on(answer, 1)
@@ -108,6 +142,7 @@ impl<'m, F: BuildFrames + Drop> Machine<'m, F> {
 
     pub(super) fn shut(&mut self) -> Act
         requires { ⌜ now self .at < 65535 ⌝ }
+        ensures { λ r. ⌜ Did (F·ReadFrames .sound) (F·ReadFrames .frames) (now (self .entry)) (now (self .exit)) r (act Instruction.Shut) ⌝ }
     {
         let answer = self.frames.leave();
         self.go_on(answer, 1)
@@ -116,6 +151,7 @@ impl<'m, F: BuildFrames + Drop> Machine<'m, F> {
     // The next position goes into the slot of a routine, and the run goes on after its body.
     pub(super) fn routine(&mut self, offset: u8, by: u16) -> Act
         requires { ⌜ now self .at < 65535 ⌝ }
+        ensures { λ r. ⌜ Did (F·ReadFrames .sound) (F·ReadFrames .frames) (now (self .entry)) (now (self .exit)) r (act (Instruction.Proc offset by 0)) ⌝ }
     {
         let answer = self.frames
             .put(0, offset as usize, Slot::Position((self.at + 1) as u16));
@@ -124,6 +160,7 @@ impl<'m, F: BuildFrames + Drop> Machine<'m, F> {
 
     pub(super) fn call(&mut self, hops: u8, offset: u8, count: u8) -> Act
         requires { ⌜ now self .at < 65535 ⌝ }
+        ensures { λ r. ⌜ Did (F·ReadFrames .sound) (F·ReadFrames .frames) (now (self .entry)) (now (self .exit)) r (act (Instruction.Do hops offset count)) ⌝ }
     {
         match self.frames.get(hops as usize, offset as usize) {
             Ok(Slot::Position(k)) => match self.frames.enter(hops as usize, count as usize) {
@@ -137,19 +174,24 @@ impl<'m, F: BuildFrames + Drop> Machine<'m, F> {
     // The new frame stands: its args move in, and the run goes on at k.
     fn enter_at(&mut self, k: u16, count: u8) -> Act
         requires { ⌜ now self .at < 65535 ⌝ }
+        ensures { λ r. ⌜ Did (F·ReadFrames .sound) (F·ReadFrames .frames) (now (self .entry)) (now (self .exit)) r (λ p m. calledAt k (moved count (m .values) (m .frames)) m) ⌝ }
     {
         if !move_args(&mut self.values, &mut self.frames, count) {
             return Act::Stuck; // in checked code the args wait
         }
-        // each return has a frame, and the first frame has none
-        if self.returns.len() >= 256 || !self.returns.push((self.at + 1) as u16) {
-            return Act::Stuck;
+        if self.returns.len() >= 256 {
+            return Act::Stuck; // each return has a frame of its own, and 256 frames stand at most
+        }
+        if !self.returns.push((self.at + 1) as u16) {
+            return Act::Stuck; // there is room for 256
         }
         self.at = k as usize;
         Act::On
     }
 
-    pub(super) fn back(&mut self) -> Act {
+    pub(super) fn back(&mut self) -> Act
+        ensures { λ r. ⌜ Did (F·ReadFrames .sound) (F·ReadFrames .frames) (now (self .entry)) (now (self .exit)) r (act Instruction.Back) ⌝ }
+    {
         match self.returns.pop() {
             None => Act::Stuck, // in checked code a body is reached only by a call
             Some(k) => match self.frames.leave() {

@@ -1,0 +1,10 @@
+pub mod Tree
+pub mod Limits
+pub mod Scopes
+pub mod Violations
+pub mod Translation
+pub mod Operators
+pub mod Machine
+pub mod Meaning
+pub mod Runs
+pub mod Examples
