@@ -2,3 +2,4 @@
 pub mod machine;
 pub mod operators;
 pub mod outcome;
+pub mod whole;

@@ -6,3 +6,4 @@ mod lookup;
 mod violation;
 mod scope;
 pub mod checked;
+pub mod load;

@@ -1,0 +1,26 @@
+use lang::code::Code;
+use lang::refusal::Refused;
+use lang::sheet::Sheet;
+use lang::stack::Stack;
+use reader::reading::read;
+use reader::tree::Tree;
+use crate::checked::check::check;
+use crate::checked::write::translate;
+use crate::record::NO_RECORD;
+use crate::record::Record;
+
+// Reads, checks and translates a text.
+fn load_text(text: &[u8], sheet: &Sheet, tree: &mut Tree, names: &mut Stack<Record>, code: &mut Code) -> Result<usize, Refused> {
+    read(text, tree)?;
+    let checked = check(tree, sheet, names)?;
+    Ok(translate(checked, sheet, names, code))
+}
+
+// From a text to code over a sheet: the code's length, or the refusal, which leaves the code as it was. The memory for
+// nodes and names is zero afterwards.
+pub fn load(text: &[u8], sheet: &Sheet, tree: &mut Tree, names: &mut Stack<Record>, code: &mut Code) -> Result<usize, Refused> {
+    let answer = load_text(text, sheet, tree, names, code);
+    tree.wipe();
+    names.wipe(NO_RECORD);
+    answer
+}
