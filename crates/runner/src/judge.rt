@@ -1,24 +1,17 @@
-use std::alloc::AllocError;
-use std::alloc::Global;
-use frames::chain::Chain;
-use frames::display::Display;
 use frames::memory::BuildFrames;
 use lang::code::Code;
 use lang::instruction::Instruction;
 use lang::refusal::Refusal;
-use lang::refusal::Refused;
 use lang::sheet::Sheet;
 use lang::stack::Stack;
-use lang::value::Slot;
 use lang::value::Value;
 use machine::machine::Machine;
-use reader::node::BLANK;
+use machine::whole::run_over;
+use reader::node::Node;
 use reader::tree::Tree;
 use translate::load::load;
-use translate::record::NO_RECORD;
-use crate::answer::Answer;
-use reader::node::Node;
 use translate::record::Record;
+use crate::answer::Answer;
 
 // The memory for one rule, but for its frames.
 #[derive(Drop)]
@@ -31,23 +24,21 @@ pub struct Memory<'m> {
     pub returns: &'m mut [u16],
 }
 
-const MOST_NAMES: usize = 1024;
+pub const MOST_NAMES: usize = 1024;
 
-// Reads a rule and runs it over the sheet and any frame memory. Done takes over the kept entries; a refusal
-// or a fault leaves them. 1 where some memory is too short.
+// Reads a rule and runs it over the sheet and any frame memory. Done takes over the entries' values; a refused
+// text and a fault leave them. 1 where some memory is too short.
 pub fn judge<'m, F: BuildFrames + Drop>(text: &[u8], sheet: &mut Sheet, memory: Memory<'m>, frames: F) -> Result<Answer, Refusal> {
     let Memory { nodes, names, instructions, places, values, returns } = memory;
     if names.len() < MOST_NAMES {
         return Err(Refusal::ShortMemory);
     }
     let mut tree = Tree::over(nodes)?;
-    let mut names = Stack::over(names);
+    let mut records = Stack::over(names);
     let mut code = Code::over(instructions, places)?;
-    match load(text, sheet, &mut tree, &mut names, &mut code) {
+    let mut machine = Machine::over(values, returns, frames)?;
+    match load(text, sheet, &mut tree, &mut records, &mut code) {
         Err(refused) => Ok(Answer::Refused(refused)),
-        Ok(_) => {
-            let mut machine = Machine::over(values, returns, frames)?;
-            Ok(Answer::Ran(run_over(&mut machine, &code, sheet)?))
-        }
+        Ok(_) => Ok(Answer::Ran(run_over(&mut machine, &code, sheet)?)),
     }
 }

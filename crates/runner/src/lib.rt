@@ -1,4 +1,7 @@
-// A rule from its text to its outcome, in memory of its own.
+// A rule from its text to its outcome and the lines that report it.
 pub mod answer;
 pub mod example;
 pub mod judge;
+pub mod owned;
+pub mod report;
+pub mod listing;
