@@ -5,5 +5,6 @@ pub mod Instructions
 pub mod Names
 pub mod Stacks
 pub mod Codes
+pub mod Kinds
 pub mod Bytes
 pub mod Words
