@@ -49,3 +49,16 @@ inName Other = false
 
 abbrev pub nameByte : ℕ → Bool
 nameByte b = inName (class b)
+
+-- the digits, of which numbers are made
+abbrev pub inNumber : Class → Bool
+inNumber Space = false
+inNumber Letter = false
+inNumber Digit = true
+inNumber Underscore = false
+inNumber Colon = false
+inNumber (Mark k) = false
+inNumber Other = false
+
+abbrev pub digitByte : ℕ → Bool
+digitByte b = inNumber (class b)

@@ -6,5 +6,6 @@ pub mod Names
 pub mod Stacks
 pub mod Codes
 pub mod Sheets
+pub mod Kinds
 pub mod Bytes
 pub mod Words

@@ -1,5 +1,5 @@
 ghost use mathlib.Core.Path.{_≡_};
-ghost use Rattle.lang.specs.Bytes.{class, nameByte};
+ghost use Rattle.lang.specs.Bytes.{class, nameByte, digitByte};
 use crate::word::Class;
 use crate::word::Kind;
 
@@ -36,6 +36,21 @@ pub fn in_name(b: u8) -> bool
         Class::Letter => true,
         Class::Digit => true,
         Class::Underscore => true,
+        Class::Space => false,
+        Class::Colon => false,
+        Class::Mark(_) => false,
+        Class::Other => false,
+    }
+}
+
+// Whether a byte is a digit.
+pub fn in_number(b: u8) -> bool
+    ensures { λ r. ⌜ r ≡ digitByte b ⌝ }
+{
+    match class_of(b) {
+        Class::Digit => true,
+        Class::Letter => false,
+        Class::Underscore => false,
         Class::Space => false,
         Class::Colon => false,
         Class::Mark(_) => false,

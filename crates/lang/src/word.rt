@@ -45,3 +45,5 @@ pub enum Class {
     Mark(Kind),
     Other,
 }
+
+pub mod calls;

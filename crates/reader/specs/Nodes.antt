@@ -36,3 +36,4 @@ nodeRoom t = length (nodesOf t)
 -- after a node more: it stands at its number, unless that is past the table
 pub record Added (a : Tree) (n : Node) (b : Tree) : Type 0 where
   pub counted : b .used ≡ cond (leb (a .used) 4096) (a .used + 1) (a .used)
+  pub stored : nodesOf b ≡ cond (ltb (a .used) 4096) (set (nodesOf a) (a .used) n) (nodesOf a)

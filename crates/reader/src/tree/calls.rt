@@ -2,10 +2,10 @@ ghost use mathlib.Core.Path.{_≡_};
 ghost use mathlib.Core.Bool.{true, false};
 ghost use Prim.Native.Nat.{_≤_, _<_};
 ghost use lib.Dec.{ltb};
-ghost use lib.ListN.{length, getD};
+ghost use lib.ListN.{length, getD, replicate};
 ghost use Rattle.std.specs.Results.{Cases as ByOk};
 ghost use Rattle.lang.specs.Refusals.{number};
-ghost use Rattle.reader.specs.Nodes.{blank, nodesOf, Added};
+ghost use Rattle.reader.specs.Nodes.{blank, nodesOf, nodeRoom, Added};
 use lang::refusal::Refusal;
 use crate::node::BLANK;
 use crate::node::Node;
@@ -51,6 +51,23 @@ impl<'m> Tree<'m> {
         }
         if at <= MOST_NODES {
             self.used = at + 1;
+        }
+    }
+
+    // No node counts any more; the memory keeps what it holds.
+    pub fn clear(&mut self)
+        ensures { λ _. ⌜ (now (self .exit) .used ≡ 0) × (nodesOf (now (self .exit)) ≡ nodesOf (now (self .entry))) ⌝ }
+    {
+        self.used = 0;
+    }
+
+    // Every node is the zero record again, and none counts.
+    pub fn wipe(&mut self)
+        ensures { λ _. ⌜ (now (self .exit) .used ≡ 0) × (nodesOf (now (self .exit)) ≡ replicate (nodeRoom (now (self .entry))) blank) ⌝ }
+    {
+        self.used = 0;
+        for i in 0..self.nodes.len() {
+            self.nodes[i] = BLANK;
         }
     }
 }

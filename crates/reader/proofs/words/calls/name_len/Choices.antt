@@ -1,0 +1,12 @@
+use Prim.Native.Nat.{_-_, _≤_, _+_}
+use mathlib.Core.Path.{_≡_}
+use lib.ListN.{length, drop}
+use Rattle.lang.specs.Bytes.{nameByte}
+use Rattle.reader.specs.Words.{run}
+use Rattle.reader.proofs.words.calls.name_len.Given as given
+
+abbrev pub Inv-loop-n : given.InvT-loop-n
+Inv-loop-n l = (l .at ≤ l .n) × (l .n ≤ length (l .text)) × (run nameByte (drop (l .at) (l .text)) ≡ (l .n - l .at) + run nameByte (drop (l .n) (l .text)))
+
+abbrev pub μ-loop-n : given.MeasureT-loop-n
+μ-loop-n l = length (l .text) - l .n

@@ -1,0 +1,25 @@
+use lang::word::Kind;
+
+// Whether a command can begin with a word of this kind.
+pub fn begins_command(kind: Kind) -> bool {
+    match kind {
+        Kind::OpenBrace | Kind::Name | Kind::Call | Kind::If | Kind::While => true,
+        _ => false,
+    }
+}
+
+// Whether a prefix can begin with a word of this kind.
+pub fn begins_prefix(kind: Kind) -> bool {
+    match kind {
+        Kind::Minus | Kind::Not | Kind::Number | Kind::True | Kind::False | Kind::Name | Kind::Open => true,
+        _ => false,
+    }
+}
+
+// Whether an expression can begin with a word of this kind.
+pub fn begins_expr(kind: Kind) -> bool {
+    match kind {
+        Kind::If | Kind::Let => true,
+        _ => begins_prefix(kind),
+    }
+}
