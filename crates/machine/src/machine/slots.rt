@@ -194,13 +194,16 @@ impl<'m, F: BuildFrames + Drop> Machine<'m, F> {
     {
         match self.returns.pop() {
             None => Act::Stuck, // in checked code a body is reached only by a call
-            Some(k) => match self.frames.leave() {
-                Ok(()) => {
-                    self.at = k as usize;
-                    Act::On
+            Some(k) => {
+                let left = self.frames.leave();
+                match left {
+                    Ok(()) => {
+                        self.at = k as usize;
+                        Act::On
+                    }
+                    Err(why) => refused(why),
                 }
-                Err(why) => refused(why),
-            },
+            }
         }
     }
 }

@@ -58,7 +58,7 @@ pub returns-in-None-place : need.returns-in-None-place
 returns-in-None-place g c =
     let m = c .args .self .now in
     let what = c .in-Some .what in
-    (c .in-Stop .ensures tt .0, λ ps h r.
+    (c .in-Stop .ensures tt .0 .0, λ ps h r.
         let s = some-at ps (m .at) what (ap (λ l. nth l (m .at)) (sym (h .whats)) ∙ sym (c .in-Some .ensures tt)) in
         let here = sym (s .2) ∙ ap (λ l. nth l (m .at)) (sym (h .wheres)) ∙ sym (c .in-None-place .ensures tt) in
         let z : _≡_ {A = ℕ} 0 1 = cc here in
