@@ -42,7 +42,11 @@ impl<'m, F: BuildFrames + Drop> Machine<'m, F> {
         values: &'m mut [Value],
         returns: &'m mut [u16],
         frames: F,
-    ) -> Result<Machine<'m, F>, Refusal> {
+    ) -> Result<Machine<'m, F>, Refusal>
+        ensures { λ r. ⌜ ByOk r
+            (λ m. (short (length (now (values .entry))) (length (now (returns .entry))) ≡ false) × (seen (F·ReadFrames .frames) m ≡ idle (F·ReadFrames .frames frames)) × (F·ReadFrames .sound frames → Ready (F·ReadFrames .sound) m))
+            (λ e. (short (length (now (values .entry))) (length (now (returns .entry))) ≡ true) × (number e ≡ 1)) ⌝ }
+    {
         if values.len() < 512 || returns.len() < 256 {
             return Err(Refusal::ShortMemory);
         }
@@ -179,12 +183,28 @@ impl<'m, F: BuildFrames + Drop> Machine<'m, F> {
         for i in 0..budget {
             match self.step(code) {
                 Step::On => {}
-                Step::Ended => return Ran { outcome: Outcome::Done, steps: i },
-                Step::Stop { fault, place } => return Ran { outcome: Outcome::Fault { fault, place }, steps: self.steps - before },
-                Step::Stuck => return Ran { outcome: Outcome::Stuck, steps: i },
+                Step::Ended => return Ran {
+                    outcome: Outcome::Done,
+                    steps: i,
+                },
+                Step::Stop { fault, place } => return Ran {
+                    outcome: Outcome::Fault { fault, place },
+                    steps: self.steps - before,
+                },
+                Step::Stuck => return Ran {
+                    outcome: Outcome::Stuck,
+                    steps: i,
+                },
             }
         }
-        let outcome = if self.at < code.len() { Outcome::Paused } else { Outcome::Done };
-        Ran { outcome, steps: budget }
+        let outcome = if self.at < code.len() {
+            Outcome::Paused
+        } else {
+            Outcome::Done
+        };
+        Ran {
+            outcome,
+            steps: budget,
+        }
     }
 }

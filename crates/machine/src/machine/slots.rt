@@ -126,7 +126,11 @@ impl<'m, F: BuildFrames + Drop> Machine<'m, F> {
         match slot.value() {
             None => Act::Stuck, // in checked code the slot of a variable holds a value
             Some(u) => {
-                if alike(u, v) { self.put_value(hops as usize, offset, v) } else { Act::Stop(Fault::Kind) }
+                if alike(u, v) {
+                    self.put_value(hops as usize, offset, v)
+                } else {
+                    Act::Stop(Fault::Kind)
+                }
             }
         }
     }

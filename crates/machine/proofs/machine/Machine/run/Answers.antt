@@ -16,11 +16,13 @@ loop-i-again g c =
     let frames = g .F·ReadFrames .frames in
     let a = seen frames (c .args .self .now) in
     let k = seen frames (c .loop-i .self) in
-    let b = seen frames (c .step .last .self) in
-    (omega (arith, c .in-On .ensures tt .0, c .loop-i .inv .0), λ ps h r.
-        let v = c .loop-i .inv .1 ps h r in
-        let d = c .in-On .ensures tt .1 ps h (v .0) in
-        (d .0, goes-on ps i a k b (v .1) (d .1)))
+    let b = seen frames (c .step .last .self) in (
+      omega (arith, c .in-On .ensures tt .0, c .loop-i .inv .0),
+      λ ps h r.
+          let v = c .loop-i .inv .1 ps h r in
+          let d = c .in-On .ensures tt .1 ps h (v .0) in
+          (d .0, goes-on ps i a k b (v .1) (d .1)),
+    )
 
 pub returns-in-Stop : need.returns-in-Stop
 returns-in-Stop g c = λ ps h r.
