@@ -38,7 +38,7 @@ stepped how.Stuck m = stuck
 abbrev pub Counted : Step → ℕ → ℕ → Type 0
 Counted how.On s t = t ≡ s + 1
 Counted how.Ended s t = t ≡ s
-Counted (how.Stop f p) s t = s ≤ t
+Counted (how.Stop f p) s t = (s ≤ t) × (t ≤ s + 1)
 Counted how.Stuck s t = s ≤ t
 
 -- at the code's end nothing changes
@@ -52,12 +52,13 @@ Rests how.Stuck ps a b = Unit {0}
 abbrev pub Steps : {F : Type 0} → (F → Type 0) → (F → Frames) → Code → Machine F → Machine F → Step → Type 0
 Steps sound frames c a b r = (ps : Paper) → Holds c ps → Ready sound a → Ready sound b × (stepped r (seen frames b) ≡ step ps (seen frames a)) × Rests r ps (seen frames a) (seen frames b)
 
--- n steps on paper from a, or s where the run ends before: paused in b, at the code's end in b, or a fault with the steps done till then
+-- s steps on paper from a, of a budget of n: paused in b after n, at the code's end in b, or by a fault
 abbrev pub Ends : Outcome → ℕ → Paper → ℕ → State → State → Type 0
-Ends outcome.Paused s ps n a b = (goes ps n a ≡ go b) × (b .at < length ps) × (s ≡ n)
-Ends outcome.Done s ps n a b = (goes ps s a ≡ go b) × (length ps ≤ b .at) × (s ≤ n)
-Ends (outcome.Fault f p) s ps n a b = goes ps n a ≡ stop f p (a .steps + s)
+Ends outcome.Paused s ps n a b = (goes ps n a ≡ go b) × (b .at < length ps) × (b .steps ≡ a .steps + s) × (s ≡ n)
+Ends outcome.Done s ps n a b = (goes ps s a ≡ go b) × (length ps ≤ b .at) × (b .steps ≡ a .steps + s) × (s ≤ n)
+Ends (outcome.Fault f p) s ps n a b = (goes ps n a ≡ stop f p (a .steps + s)) × (s ≤ n)
 Ends outcome.Stuck s ps n a b = goes ps n a ≡ stuck
 
+-- the machine was ready and did what the machine on paper does with this budget
 abbrev pub Runs : {F : Type 0} → (F → Type 0) → (F → Frames) → Code → ℕ → Machine F → Machine F → Ran → Type 0
 Runs sound frames c n a b r = (ps : Paper) → Holds c ps → Ready sound a → Ready sound b × Ends (r .outcome) (r .steps) ps n (seen frames a) (seen frames b)

@@ -46,7 +46,7 @@ Did sound frames a b r n = (b .steps ≡ a .steps) × (Ready sound a → Ready s
 -- a step that goes on is counted, and no step is taken back
 abbrev pub Counted : Act → ℕ → ℕ → Type 0
 Counted act.On s t = t ≡ s + 1
-Counted (act.Stop f) s t = s ≤ t
+Counted (act.Stop f) s t = (s ≤ t) × (t ≤ s + 1)
 Counted act.Stuck s t = s ≤ t
 
 -- the two newest values, the older first
@@ -63,9 +63,18 @@ movedBy false vs fs = None
 abbrev pub short : ℕ → ℕ → Bool
 short v r = cond (ltb v mostValues) true (ltb r mostReturns)
 
--- the machine as a run begins: one frame, which holds the starting values
-abbrev pub begun : List Value → State
-begun vs = record { at = 0; values = []; returns = []; frames = none ▷ record { slots = map slotOf vs; parent = None }; steps = 0 }
+-- before the first step
+abbrev pub idle : Frames → State
+idle fs = record { at = 0; values = []; returns = []; frames = fs; steps = 0 }
+
+-- one frame, which holds the starting values
+abbrev pub startFrames : List Value → Frames
+startFrames vs = none ▷ record { slots = map slotOf vs; parent = None }
+
+-- the machine as a run begins, if the frame was not refused
+abbrev pub Begun : Result (Unit {0}) Refusal → List Value → State → Type 0
+Begun (Ok u) vs m = m ≡ idle (startFrames vs)
+Begun (Err e) vs m = Unit {0}
 
 -- the value in a slot that was asked for
 abbrev pub valueGot : Result Slot Refusal → Option Value

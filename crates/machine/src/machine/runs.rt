@@ -3,12 +3,11 @@ ghost use mathlib.Core.Bool.{true, false};
 ghost use Prim.Native.Nat.{_<_};
 ghost use lib.ListN.{length};
 ghost use Rattle.std.specs.Results.{Cases as ByOk};
-ghost use Rattle.std.specs.declared.option.Option.the-variants.{Some};
-ghost use Rattle.std.specs.declared.result.Result.the-variants.{Ok};
+ghost use Rattle.std.specs.declared.option.Option.the-variants.{Some, None};
 ghost use Rattle.lang.specs.Refusals.{number};
-ghost use Rattle.frames.specs.Frames.{none, got, opened};
+ghost use Rattle.frames.specs.Frames.{none, _▷_, fresh, got, opened};
 ghost use Rattle.meaning.specs.Machine.{act, fetched};
-ghost use Rattle.machine.specs.Shows.{seen, Ready, Did, acted, Counted, short, begun, valueGot};
+ghost use Rattle.machine.specs.Shows.{seen, Ready, Did, acted, Counted, short, idle, startFrames, Begun, valueGot};
 ghost use Rattle.machine.specs.Runs.{Counted as CountedBy, Steps, Runs};
 use crate::machine::Machine;
 use crate::outcome::Act;
@@ -28,8 +27,10 @@ use lang::value::Value;
 // The most steps of a run.
 pub const MOST_STEPS: u32 = 1_000_000;
 
-// The values go into the slots of the last frame.
-fn put_all<F: BuildFrames + Drop>(frames: &mut F, values: &[Value]) {
+// The values go into the slots of a first frame.
+fn put_all<F: BuildFrames + Drop>(frames: &mut F, values: &[Value])
+    ensures { λ _. ⌜ (F·ReadFrames .sound (now (frames .entry)) → F·ReadFrames .frames (now (frames .entry)) ≡ none ▷ fresh (length (now (values .entry))) None → F·ReadFrames .sound (now (frames .exit)) × (F·ReadFrames .frames (now (frames .exit)) ≡ startFrames (now (values .entry)))) ⌝ }
+{
     for o in 0..values.len() {
         let _ = frames.put(0, o, values[o].slot());
     }
@@ -41,7 +42,11 @@ impl<'m, F: BuildFrames + Drop> Machine<'m, F> {
         values: &'m mut [Value],
         returns: &'m mut [u16],
         frames: F,
-    ) -> Result<Machine<'m, F>, Refusal> {
+    ) -> Result<Machine<'m, F>, Refusal>
+        ensures { λ r. ⌜ ByOk r
+            (λ m. (short (length (now (values .entry))) (length (now (returns .entry))) ≡ false) × (seen (F·ReadFrames .frames) m ≡ idle (F·ReadFrames .frames frames)) × (F·ReadFrames .sound frames → Ready (F·ReadFrames .sound) m))
+            (λ e. (short (length (now (values .entry))) (length (now (returns .entry))) ≡ true) × (number e ≡ 1)) ⌝ }
+    {
         if values.len() < 512 || returns.len() < 256 {
             return Err(Refusal::ShortMemory);
         }
@@ -55,7 +60,9 @@ impl<'m, F: BuildFrames + Drop> Machine<'m, F> {
     }
 
     // Starts again: the first position, no steps, no values, and one frame that holds the starting values.
-    pub fn begin(&mut self, starting: &[Value]) -> Result<(), Refusal> {
+    pub fn begin(&mut self, starting: &[Value]) -> Result<(), Refusal>
+        ensures { λ r. ⌜ (Ready (F·ReadFrames .sound) (now (self .entry)) → Ready (F·ReadFrames .sound) (now (self .exit)) × (r ≡ opened none (length (now (starting .entry))) .answer) × Begun r (now (starting .entry)) (seen (F·ReadFrames .frames) (now (self .exit)))) ⌝ }
+    {
         self.at = 0;
         self.steps = 0;
         self.values.clear();
@@ -176,12 +183,28 @@ impl<'m, F: BuildFrames + Drop> Machine<'m, F> {
         for i in 0..budget {
             match self.step(code) {
                 Step::On => {}
-                Step::Ended => return Ran { outcome: Outcome::Done, steps: i },
-                Step::Stop { fault, place } => return Ran { outcome: Outcome::Fault { fault, place }, steps: self.steps - before },
-                Step::Stuck => return Ran { outcome: Outcome::Stuck, steps: i },
+                Step::Ended => return Ran {
+                    outcome: Outcome::Done,
+                    steps: i,
+                },
+                Step::Stop { fault, place } => return Ran {
+                    outcome: Outcome::Fault { fault, place },
+                    steps: self.steps - before,
+                },
+                Step::Stuck => return Ran {
+                    outcome: Outcome::Stuck,
+                    steps: i,
+                },
             }
         }
-        let outcome = if self.at < code.len() { Outcome::Paused } else { Outcome::Done };
-        Ran { outcome, steps: budget }
+        let outcome = if self.at < code.len() {
+            Outcome::Paused
+        } else {
+            Outcome::Done
+        };
+        Ran {
+            outcome,
+            steps: budget,
+        }
     }
 }

@@ -126,7 +126,11 @@ impl<'m, F: BuildFrames + Drop> Machine<'m, F> {
         match slot.value() {
             None => Act::Stuck, // in checked code the slot of a variable holds a value
             Some(u) => {
-                if alike(u, v) { self.put_value(hops as usize, offset, v) } else { Act::Stop(Fault::Kind) }
+                if alike(u, v) {
+                    self.put_value(hops as usize, offset, v)
+                } else {
+                    Act::Stop(Fault::Kind)
+                }
             }
         }
     }
@@ -194,13 +198,16 @@ impl<'m, F: BuildFrames + Drop> Machine<'m, F> {
     {
         match self.returns.pop() {
             None => Act::Stuck, // in checked code a body is reached only by a call
-            Some(k) => match self.frames.leave() {
-                Ok(()) => {
-                    self.at = k as usize;
-                    Act::On
+            Some(k) => {
+                let left = self.frames.leave();
+                match left {
+                    Ok(()) => {
+                        self.at = k as usize;
+                        Act::On
+                    }
+                    Err(why) => refused(why),
                 }
-                Err(why) => refused(why),
-            },
+            }
         }
     }
 }

@@ -166,12 +166,8 @@ impl<'m, F: BuildFrames + Drop> Machine<'m, F> {
         match self.values.pop() {
             None => Act::Stuck,
             Some(Value::Number(_)) => Act::Stop(Fault::Kind),
-            Some(Value::Truth(true)) => {
-                self.at += 1;
-                Act::On
-            }
-            Some(Value::Truth(false)) => {
-                self.at += by as usize;
+            Some(Value::Truth(b)) => {
+                self.at += if b { 1 } else { by as usize };
                 Act::On
             }
         }

@@ -16,11 +16,13 @@ loop-i-again g c =
     let frames = g .F·ReadFrames .frames in
     let a = seen frames (c .args .self .now) in
     let k = seen frames (c .loop-i .self) in
-    let b = seen frames (c .step .last .self) in
-    (omega (arith, c .in-On .ensures tt .0, c .loop-i .inv .0), λ ps h r.
-        let v = c .loop-i .inv .1 ps h r in
-        let d = c .in-On .ensures tt .1 ps h (v .0) in
-        (d .0, goes-on ps i a k b (v .1) (d .1)))
+    let b = seen frames (c .step .last .self) in (
+      omega (arith, c .in-On .ensures tt .0, c .loop-i .inv .0),
+      λ ps h r.
+          let v = c .loop-i .inv .1 ps h r in
+          let d = c .in-On .ensures tt .1 ps h (v .0) in
+          (d .0, goes-on ps i a k b (v .1) (d .1)),
+    )
 
 pub returns-in-Stop : need.returns-in-Stop
 returns-in-Stop g c = λ ps h r.
@@ -35,8 +37,9 @@ returns-in-Stop g c = λ ps h r.
     let v = c .loop-i .inv .1 ps h r in
     let d = c .in-Stop .ensures tt .1 ps h (v .0) in
     let less : i < n = omega arith in
-    let since : b .steps ≡ a .steps + (b .steps - a .steps) = omega (arith, c .in-Stop .ensures tt .0, c .loop-i .inv .0) in
-    (d .0, goes-then ps i n a k (stop f p (b .steps)) less (v .1) (d .1) ∙ ap (stop f p) since)
+    let since : b .steps ≡ a .steps + (b .steps - a .steps) = omega (arith, c .in-Stop .ensures tt .0 .0, c .loop-i .inv .0) in
+    let most : b .steps - a .steps ≤ n = omega (arith, c .in-Stop .ensures tt .0 .1, c .loop-i .inv .0) in
+    (d .0, (goes-then ps i n a k (stop f p (b .steps)) less (v .1) (d .1) ∙ ap (stop f p) since, most))
 
 pub returns-in-Stuck : need.returns-in-Stuck
 returns-in-Stuck g c = λ ps h r.
@@ -57,7 +60,7 @@ returns-then-self-len g c = λ ps h r.
     let v = c .loop-i .inv .1 ps h r in
     let q : n ≡ c .loop-i .i = omega arith in
     let before : c .loop-i .self .at < length ps = omega (arith, c .len .ensures, ap length (h .whats), told ps, c .if-self-len .taken) in
-    (v .0, (ap (λ j. goes ps j a) q ∙ v .1, before, refl))
+    (v .0, (ap (λ j. goes ps j a) q ∙ v .1, before, c .loop-i .inv .0 ∙ ap (λ j. a .steps + j) (sym q), refl))
 
 pub returns-else-self-len : need.returns-else-self-len
 returns-else-self-len g c = λ ps h r.
@@ -67,4 +70,4 @@ returns-else-self-len g c = λ ps h r.
     let q : n ≡ c .loop-i .i = omega arith in
     let past : length ps ≤ c .loop-i .self .at = omega (arith, c .len .ensures, ap length (h .whats), told ps, c .if-self-len .left) in
     let same : n ≤ n = omega arith in
-    (v .0, (ap (λ j. goes ps j a) q ∙ v .1, past, same))
+    (v .0, (ap (λ j. goes ps j a) q ∙ v .1, past, c .loop-i .inv .0 ∙ ap (λ j. a .steps + j) (sym q), same))

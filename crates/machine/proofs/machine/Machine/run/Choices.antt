@@ -10,5 +10,5 @@ use Rattle.machine.proofs.machine.Machine.run.Given as given
 abbrev pub Inv-loop-i : given.InvT-loop-i
 Inv-loop-i g l =
     (l .self .steps ≡ l .entry .self .steps + l .i)
-      × ((ps : Code) → Holds (l .code) ps → Ready (g .F·ReadFrames .sound) (l .entry .self) → Ready (g .F·ReadFrames .sound) (l .self)
-        × (goes ps (l .i) (seen (g .F·ReadFrames .frames) (l .entry .self)) ≡ go (seen (g .F·ReadFrames .frames) (l .self))))
+    × ((ps : Code) → Holds (l .code) ps → Ready (g .F·ReadFrames .sound) (l .entry .self) → Ready (g .F·ReadFrames .sound) (l .self)
+    × (goes ps (l .i) (seen (g .F·ReadFrames .frames) (l .entry .self)) ≡ go (seen (g .F·ReadFrames .frames) (l .self))))
