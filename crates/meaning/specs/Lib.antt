@@ -7,4 +7,6 @@ pub mod Operators
 pub mod Machine
 pub mod Meaning
 pub mod Runs
+pub mod Uses
+pub mod Pairs
 pub mod Examples
