@@ -99,3 +99,15 @@ nth-past (x ∷ xs) = nth-past xs
 pub nth-seam : {A : Type 0} (xs ys : List A) (y : A) → nth (xs ++ (y ∷ ys)) (length xs) ≡ Some y
 nth-seam [] ys y = refl
 nth-seam (x ∷ xs) ys y = nth-seam xs ys y
+
+abbrev fromSome : {A : Type 0} → A → Option A → A
+fromSome a None = a
+fromSome a (Some b) = b
+
+pub some-is : {A : Type 0} {a b : A} → Some a ≡ Some b → a ≡ b
+some-is {A} {a} {b} e = ap (fromSome a) e
+
+pub nth-below : {A : Type 0} {a : A} (xs : List A) (i : ℕ) → nth xs i ≡ Some a → i < length xs
+nth-below [] i e = none-some e
+nth-below (x ∷ xs) zero e = omega arith
+nth-below (x ∷ xs) (suc i) e = let l = nth-below xs i e in omega arith

@@ -4,3 +4,6 @@ pub mod Pieces
 pub mod Meets
 pub mod Chains
 pub mod Expressions
+pub mod Stores
+pub mod Blocks
+pub mod Commands
