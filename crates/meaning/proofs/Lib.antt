@@ -7,3 +7,8 @@ pub mod Expressions
 pub mod Stores
 pub mod Blocks
 pub mod Commands
+pub mod Pairing
+pub mod Steps
+pub mod Whole
+pub mod Least
+pub mod Short

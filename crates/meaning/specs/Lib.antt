@@ -9,4 +9,5 @@ pub mod Meaning
 pub mod Runs
 pub mod Uses
 pub mod Pairs
+pub mod Agreement
 pub mod Examples
