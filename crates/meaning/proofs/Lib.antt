@@ -1,0 +1,14 @@
+pub mod Basics
+pub mod Shades
+pub mod Pieces
+pub mod Meets
+pub mod Chains
+pub mod Expressions
+pub mod Stores
+pub mod Blocks
+pub mod Commands
+pub mod Pairing
+pub mod Steps
+pub mod Whole
+pub mod Least
+pub mod Short

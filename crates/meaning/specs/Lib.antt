@@ -7,4 +7,7 @@ pub mod Operators
 pub mod Machine
 pub mod Meaning
 pub mod Runs
+pub mod Uses
+pub mod Pairs
+pub mod Agreement
 pub mod Examples

@@ -249,9 +249,11 @@ declaring no-routines = give tt
 declaring (fun rs p q x ps e) = do
   declaring rs
   tick p
+  give tt
 declaring (proc rs p q x ps c) = do
   declaring rs
   tick p
+  give tt
 
 -- an assignment: fault 21 if the variable's kind would change
 abbrev pub assigns : Option (Meant × Env) → Value → Store → Place → Run Store

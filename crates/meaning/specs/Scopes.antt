@@ -1,5 +1,5 @@
 -- Which declaration a name means, and where it stands: the pair of hops and offset.
-use Prim.Native.Nat.{ℕ, zero, suc, _+_}
+use Prim.Native.Nat.{ℕ, suc}
 use mathlib.Core.Bool.{Bool, true, false, cond}
 use mathlib.Core.List.{List, [], _∷_, _++_, map}
 use Rattle.std.specs.declared.option.Option.{Option}
@@ -34,11 +34,11 @@ pub record Use : Type 0 where
 -- a slot further, and a frame outward
 abbrev pub further : Option Use → Option Use
 further None = None
-further (Some u) = Some (record { sort = u .sort; hops = u .hops; offset = u .offset + 1 })
+further (Some u) = Some (record { sort = u .sort; hops = u .hops; offset = suc (u .offset) })
 
 abbrev pub outward : Option Use → Option Use
 outward None = None
-outward (Some u) = Some (record { sort = u .sort; hops = u .hops + 1; offset = u .offset })
+outward (Some u) = Some (record { sort = u .sort; hops = suc (u .hops); offset = u .offset })
 
 -- the first slot of a frame that has the name: a doubled name means its first declaration
 abbrev pub among : Name → Names → Option Use

@@ -1,0 +1,97 @@
+-- The code of a rule does what the rule's named meaning says: the theorems on runs.
+use Prim.Native.Nat.{ℕ, zero, suc, _+_, _*_, _≤_, _<_}
+use mathlib.Core.Path.{_≡_}
+use mathlib.Core.List.{List, [], _∷_}
+use lib.ListN.{length}
+use Rattle.std.specs.Finite.{nth}
+use Rattle.std.specs.declared.option.Option.{Option}
+use Rattle.std.specs.declared.option.Option.the-variants.{Some, None}
+use Rattle.lang.specs.declared.name.Name.{Name}
+use Rattle.lang.specs.declared.fault.Fault.{Fault}
+use Rattle.lang.specs.declared.fault.Fault.the-variants.{Kind, Range, Frames, Slots, Values, Steps}
+use Rattle.lang.specs.declared.sheet.Entry.{Entry}
+use Rattle.frames.specs.Frames.{count, total}
+use Rattle.meaning.specs.Tree.{Command, nodesC}
+use Rattle.meaning.specs.Limits.{mostFrames, mostSlots, mostValues, mostReturns}
+use Rattle.meaning.specs.Scopes.{Scope, find}
+use Rattle.meaning.specs.Violations.{violations}
+use Rattle.meaning.specs.Translation.{Code, translated}
+use Rattle.meaning.specs.Machine.{Machine, Next, go, stop, ended, stuck, after, goes}
+use Rattle.meaning.specs.Meaning.{Env, Store, lookup}
+use Rattle.meaning.specs.Runs.{Outcome, done, faulty, Ending, meaning, start, sheetFrames}
+use Rattle.meaning.specs.Uses.{used}
+use Rattle.meaning.specs.Pairs.{scopeOf, Stand, Agrees}
+
+-- At which step of the machine a fault shows, when t steps are done: the faulting step is done and counted, but for fault 26.
+abbrev pub faultAt : Fault → ℕ → ℕ
+faultAt Kind t = t
+faultAt Range t = t
+faultAt Frames t = t
+faultAt Slots t = t
+faultAt Values t = t
+faultAt Steps t = t + 1
+
+-- at which step of the machine the end of a run shows; after the last instruction it is the one that finds no more code
+abbrev pub endAt : Outcome → ℕ → ℕ
+endAt (done es) t = t + 1
+endAt (faulty f p) t = faultAt f t
+
+-- the machine's answer at the end of a run
+abbrev pub answer : Outcome → ℕ → Next
+answer (done es) t = ended
+answer (faulty f p) t = stop f p t
+
+-- the machine after the last instruction: the entries stand in the sheet's frame, nothing waits
+abbrev pub finished : Code → List Entry → ℕ → Machine
+finished code es t = record { at = length code; values = []; returns = []; frames = sheetFrames es; steps = t }
+
+-- after done the entries are those of the meaning
+abbrev pub Leaves : Code → List Entry → Outcome → ℕ → Type 0
+Leaves code es (done fs) t = goes code t (start es) ≡ go (finished code fs t)
+Leaves code es (faulty f p) t = Unit {0}
+
+-- The machine on the code, from the entries' frame, ends as the meaning does, at the same step, and not before.
+pub record Runs-as (code : Code) (es : List Entry) (e : Ending) : Type 0 where
+  pub before : (k : ℕ) → k < endAt (e .outcome) (e .steps) → (m : Machine) × (goes code k (start es) ≡ go m) × (m .steps ≡ k)
+  pub at-end : goes code (endAt (e .outcome) (e .steps)) (start es) ≡ answer (e .outcome) (e .steps)
+  pub leaves : Leaves code es (e .outcome) (e .steps)
+
+-- For every sheet and every rule without violations over it.
+abbrev pub Code-means : Type 0
+Code-means = (es : List Entry) (c : Command) → violations es c ≡ [] → Runs-as (translated es c) es (meaning es c)
+
+-- No such run is stuck. So no instruction misses a value, a return position or a slot, none finds a slot that holds something else,
+-- the frame memory never refuses by 27 or 28, and there is always room for a return position.
+abbrev pub Never-stuck : Type 0
+Never-stuck = (es : List Entry) (c : Command) → violations es c ≡ [] → (k : ℕ) → goes (translated es c) k (start es) ≡ stuck → ⊥
+
+-- n steps and then k steps are n + k steps
+abbrev pub Runs-cut : Type 0
+Runs-cut = (code : Code) (n k : ℕ) (m : Machine) → goes code (n + k) m ≡ after (goes code n m) (goes code k)
+
+-- what memory a state takes
+pub record Within (m : Machine) : Type 0 where
+  pub values : length (m .values) ≤ mostValues
+  pub returns : length (m .returns) ≤ mostReturns
+  pub frames : count (m .frames) ≤ mostFrames
+  pub slots : total (m .frames) ≤ mostSlots
+
+-- The memory suffices: whatever the code, a run from at most 32 entries never has more of anything than the limits say.
+abbrev pub Memory-suffices : Type 0
+Memory-suffices = (es : List Entry) (code : Code) (k : ℕ) (m : Machine) → length es ≤ 32 → goes code k (start es) ≡ go m → Within m
+
+-- The pair law. Whenever the run is at an instruction that came from the use of a name, the frames stand for an environment of the scope
+-- around that use. So the name's pair leads to the frame of its innermost visible declaration and there to the slot that holds what the name stands for.
+pub record Leads (code : Code) (x : Name) (g : Scope) (m : Machine) : Type 0 where
+  pub env : Env
+  pub store : Store
+  pub scope : scopeOf env ≡ g
+  pub stand : Stand code store env (m .frames)
+  pub agrees : Agrees code store (m .frames) (lookup x env) (find x g)
+
+abbrev pub Pair-law : Type 0
+Pair-law = (es : List Entry) (c : Command) → violations es c ≡ [] → (k : ℕ) (m : Machine) (x : Name) (g : Scope) → goes (translated es c) k (start es) ≡ go m → nth (used es c) (m .at) ≡ Some (Some (x, g)) → Leads (translated es c) x g m
+
+-- The code has at most three instructions a node, so 12,288 suffice for 4,096 nodes.
+abbrev pub Code-is-short : Type 0
+Code-is-short = (es : List Entry) (c : Command) → (length (translated es c) ≤ 3 * nodesC c) × (nodesC c ≤ 4096 → length (translated es c) ≤ 12288)
