@@ -14,6 +14,9 @@ use crate::answer::Answer;
 use crate::judge::MOST_NAMES;
 use crate::judge::Memory;
 use crate::judge::judge;
+use frames::chain::calls::ChainBuildFrames;
+use frames::display::calls::DisplayBuildFrames;
+use lang::refusal::RefusalDebug;
 
 // Why a rule could not be judged at all: no memory was to be had, or what was handed over is too short.
 #[derive(Clone, Copy, Debug)]
