@@ -32,7 +32,7 @@ use Rattle.meaning.specs.Pairs.{sortOf, names, scopeOf}
 use Rattle.meaning.proofs.Basics.{from-true, cons-nil, nil-left, nil-right, append-nil, append-assoc, length-snoc, value-slot}
 use Rattle.meaning.proofs.Shades.{Cell, blank, fixed, located, entry, show, Shade, Shades, empty, _▸_, shade, height, slots, last, down, out, cellAt, shown, height-shown, slots-shown, last-shown, got-shown, whole, out-part, down-last}
 use Rattle.meaning.proofs.Pieces.{Text, At, at-tail, at-end, at-length, splitE, splitA, splitD, splitC, splitS, splitR}
-use Rattle.meaning.proofs.Meets.{mach, Meets, now, After, went, halted, meets-bind, meets-map, meets-at, after-is, meets-line, meets-use, after-unless, after-branch, after-grown}
+use Rattle.meaning.proofs.Meets.{mach, Visible, Meets, now, After, went, halted, meets-bind, meets-map, meets-at, after-is, meets-line, meets-use, after-unless, after-branch, after-grown}
 use Rattle.meaning.proofs.Chains.{roomOf, Fits, Matches, Chain, Seen, seen, chain-stand, chain-deep, last-of}
 use Rattle.meaning.proofs.Stores.{one, occ, Sound, location-fits, written-put, sound-left, sound-set, sound-like, sound-more, occ-fixed, occ-blanks, occ-append, occ-fill, sound-new, shown-append, value-last}
 use Rattle.meaning.proofs.Expressions.{Lands, LandsA, framed-fits, fill-act, given-names, given-cells, meets-value, meets-args, after-called, Right, good, goodA, calls-right}
@@ -52,6 +52,14 @@ procedure-fits p m k e = by (eqb k m) refl e
     by : (b : Bool) → eqb k m ≡ b → cond b [] (wrong p WrongCount) ≡ [] → k ≡ m
     by true q e = eqb→eq k m (from-true _ q)
     by false q e = cons-nil e
+
+variable-visible : (p : Place) (o : Option Use) → asVariable p o ≡ [] → Visible o
+variable-visible p None e = cons-nil e
+variable-visible p (Some u) e = tt
+
+procedure-visible : (p n : ℕ) (o : Option Use) → asProcedure p n o ≡ [] → Visible o
+procedure-visible p n None e = cons-nil e
+procedure-visible p n (Some u) e = tt
 
 -- STORE to a variable
 store-act : (h o p i : ℕ) (v u : Value) (vs : List Value) (rs : List ℕ) (fs gs : Frames) (s : ℕ) → got fs h o ≡ Ok (slotOf u) → written fs h o (slotOf v) ≡ Rattle.frames.specs.Frames.done gs → storing h o (v ∷ vs) p (mach i (v ∷ vs) rs fs s) ≡ cond (alike u v) (go (mach (i + 1) vs rs gs s)) (stop fault.Kind p s)
@@ -110,7 +118,7 @@ module _ (t : Text) where
     unfolding codeC usesC evalC wrongC
     assign-good p z e env st w vs rs i j s b q g a c d =
       let x = splitE t (scopeOf env) e a in
-      meets-value t _ (good t cs n hE e env st w vs rs i (x .0) s b q (nil-right _ _ g) (x .1) c) λ v u l. meets-use t _ env st (chain-stand t st env w c) (x .2) λ l′.
+      meets-value t _ (good t cs n hE e env st w vs rs i (x .0) s b q (nil-right _ _ g) (x .1) c) λ v u l. meets-use t _ env st (variable-visible p _ (nil-left _ _ g)) (chain-stand t st env w c) (x .2) λ l′.
       write-good st w vs v rs (x .0) j p s (u + 1) (lookup z env) (find z (scopeOf env)) (omega arith) (at-end t (at-tail t (x .2))) d (seen t z env w c) (nil-left _ _ g)
 
     enter-good : (st : Store) (w : Shades) (us vs : List Value) (rs : List ℕ) (i j p y m s u : ℕ) (r : Option (Meant × Env)) (o : Option Use) → mostSteps ≤ n + s → s < u → u ≤ mostSteps → length rs < height w → i + 1 ≡ j → length us ≡ m → Sound st w → Seen t w r o → asProcedure y m o ≡ []
@@ -139,7 +147,7 @@ module _ (t : Text) where
     unfolding codeC codeA usesC usesA evalC evalA wrongC wrongA
     perform-good p y z es env st w vs rs i j s b q g a c d =
       let x = splitA t (scopeOf env) es a in
-      meets-args t _ (goodA t cs n hE es env st w vs rs i (x .0) s b q (nil-right _ _ g) (x .1) c) λ us u l k. meets-use t _ env st (chain-stand t st env w c) (x .2) λ l′.
+      meets-args t _ (goodA t cs n hE es env st w vs rs i (x .0) s b q (nil-right _ _ g) (x .1) c) λ us u l k. meets-use t _ env st (procedure-visible y (args es) _ (nil-left _ _ g)) (chain-stand t st env w c) (x .2) λ l′.
       enter-good st w us vs rs (x .0) j p y (args es) s (u + 1) (lookup z env) (find z (scopeOf env)) b (omega arith) (omega arith) q (at-end t (at-tail t (x .2))) k d (seen t z env w c) (nil-left _ _ g)
 
     fork-good : (p : Place) (e : Expr) (c₁ c₂ : Command) → GoodC c₁ → GoodC c₂ → GoodC (fork p e c₁ c₂)

@@ -39,7 +39,7 @@ use Rattle.meaning.specs.Pairs.{sortOf, names, scopeOf}
 use Rattle.meaning.proofs.Basics.{to-true, from-true, ltb-true, none-some, cons-nil, nil-left, nil-right, append-nil, reverse-snoc, length-snoc, value-slot}
 use Rattle.meaning.proofs.Shades.{Cell, blank, fixed, located, entry, show, Shade, Shades, empty, _▸_, shade, height, slots, last, down, out, cellAt, shown, height-shown, slots-shown, last-shown, out-shown, got-shown, whole, out-part, down-last, written-last}
 use Rattle.meaning.proofs.Pieces.{Text, At, at-tail, at-end, at-length, splitE, splitA}
-use Rattle.meaning.proofs.Meets.{mach, Meets, now, After, went, halted, meets-bind, meets-map, meets-at, after-is, meets-line, meets-use, after-faults, after-branch, after-grown, after-entered}
+use Rattle.meaning.proofs.Meets.{mach, Visible, Meets, now, After, went, halted, meets-bind, meets-map, meets-at, after-is, meets-line, meets-use, after-faults, after-branch, after-grown, after-entered}
 use Rattle.meaning.proofs.Chains.{roomOf, Fits, Matches, Chain, Seen, seen, chain-stand, chain-deep, last-of}
 
 -- a value more, at j, no fewer steps
@@ -71,6 +71,15 @@ operator-act less p m = refl
 
 pub fill-act : (o : ℕ) (b : Binding) (p i : ℕ) (v : Value) (vs : List Value) (rs : List ℕ) (fs : Frames) (f : Frame) (s : ℕ) → o < length (f .slots) → act (Fill o b) p (mach i (v ∷ vs) rs (fs ▷ f) s) ≡ go (mach (i + 1) vs rs (fs ▷ filled f o (slotOf v)) s)
 fill-act o b p i v vs rs fs f s l = ap (λ (b : Built). answered (b .answer) (onFrames (i + 1) vs (b .after) (mach i (v ∷ vs) rs (fs ▷ f) s)) p (mach i (v ∷ vs) rs (fs ▷ f) s)) (written-last fs f o (slotOf v) l)
+
+-- a name without violations is visible
+value-visible : (p : Place) (o : Option Use) → asValue p o ≡ [] → Visible o
+value-visible p None e = cons-nil e
+value-visible p (Some u) e = tt
+
+function-visible : (p n : ℕ) (o : Option Use) → asFunction p n o ≡ [] → Visible o
+function-visible p n None e = cons-nil e
+function-visible p n (Some u) e = tt
 
 -- args move into a new frame
 set-unset : (m : ℕ) (ss : List Slot) (v : Slot) → set (replicate (suc m) slot.Unset ++ ss) m v ≡ replicate m slot.Unset ++ (v ∷ ss)
@@ -193,7 +202,7 @@ module _ (t : Text) where
 
     read-good : (p : Place) (x : Name) → Good (read p x)
     unfolding codeE usesE evalE wrongE
-    read-good p x env st w vs rs i j s b q g a c = meets-use t _ env st (chain-stand t st env w c) a λ l.
+    read-good p x env st w vs rs i j s b q g a c = meets-use t _ env st (value-visible p _ g) (chain-stand t st env w c) a λ l.
       after-is t (name-load st w p (mach i vs rs (shown st w) (s + 1)) (lookup x env) (find x (scopeOf env)) (seen t x env w c) g)
       (after-faults t (leb 512 (length vs)) fault.Values p (s + 1) _ (went (landing (i + 1) (at-end t (at-tail t a)) (omega arith))))
 
@@ -295,7 +304,7 @@ module _ (t : Text) where
     unfolding codeE codeA usesE usesA evalE evalA wrongE wrongA
     apply-good p x es Es env st w vs rs i j s b q g a c =
       let y = splitA t (scopeOf env) es a in
-      meets-args _ (Es env st w vs rs i (y .0) s b q (nil-right _ _ g) (y .1) c) λ us u l k. meets-use t _ env st (chain-stand t st env w c) (y .2) λ l′.
+      meets-args _ (Es env st w vs rs i (y .0) s b q (nil-right _ _ g) (y .1) c) λ us u l k. meets-use t _ env st (function-visible p (args es) _ (nil-left _ _ g)) (chain-stand t st env w c) (y .2) λ l′.
       call-good st w us vs rs (y .0) j p (args es) s (u + 1) (lookup x env) (find x (scopeOf env)) b (omega arith) (omega arith) q (at-end t (at-tail t (y .2))) k (seen t x env w c) (nil-left _ _ g)
 
     mutual

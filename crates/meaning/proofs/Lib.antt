@@ -8,6 +8,7 @@ pub mod Stores
 pub mod Blocks
 pub mod Commands
 pub mod Pairing
+pub mod Besides
 pub mod Steps
 pub mod Whole
 pub mod Least

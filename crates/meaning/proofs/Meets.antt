@@ -21,7 +21,7 @@ use Rattle.lang.specs.declared.instruction.Instruction.{Instruction}
 use Rattle.frames.specs.Frames.{Frame, Frames, none, _▷_, count, total, newest, walk, Built, refused, done, deep, fresh, grown, opened, enteredFrom, entered}
 use Rattle.meaning.specs.Tree.{Place}
 use Rattle.meaning.specs.Limits.{mostSteps, mostFrames, mostSlots}
-use Rattle.meaning.specs.Scopes.{Scope}
+use Rattle.meaning.specs.Scopes.{Scope, Use, find}
 use Rattle.meaning.specs.Operators.{Worked}
 use Rattle.meaning.specs.Machine.{Machine, Next, go, stop, ended, stuck, failed, on, gives, branched, answered, act, fetched, step}
 use Rattle.meaning.specs.Meaning.{Answer, ok, fault as faulted, Run, bind, tick, faults, settle, isTrue, Env, Store, Room, opens}
@@ -33,11 +33,15 @@ use Rattle.meaning.proofs.Pieces.{Text, At, at-head, at-use}
 abbrev pub mach : ℕ → List Value → List ℕ → Frames → ℕ → Machine
 mach i vs rs fs s = record { at = i; values = vs; returns = rs; frames = fs; steps = s }
 
--- at a use the frames stand for an environment of the use's scope
+abbrev pub Visible : Option Use → Type 0
+Visible None = ⊥
+Visible (Some u) = Unit {0}
+
+-- at a use the name is visible, and the frames stand for an environment of its scope
 abbrev pub Kept : Text → Option (Option (Name × Scope)) → Frames → Type 0
 Kept t None fs = Unit {0}
 Kept t (Some None) fs = Unit {0}
-Kept t (Some (Some u)) fs = (env : Env) × (st : Store) × (scopeOf env ≡ u .1) × Stand (t .code) st env fs
+Kept t (Some (Some u)) fs = (env : Env) × (st : Store) × (scopeOf env ≡ u .1) × Visible (find (u .0) (u .1)) × Stand (t .code) st env fs
 
 module _ (t : Text) where
 
@@ -92,8 +96,8 @@ module _ (t : Text) where
   pub meets-line : {A : Type 0} {Q : A → ℕ → Machine → Type 0} {i j : ℕ} {vs : List Value} {rs : List ℕ} {fs : Frames} {s : ℕ} {c : Instruction} {p : Place} {cs : List (Instruction × Place)} {us : Uses} (k : Unit {0} → Run A) → At t i ((c, p) ∷ cs) (None ∷ us) j → (s < mostSteps → After Q (act c p (mach i vs rs fs (s + 1))) (k tt (s + 1))) → Meets Q (mach i vs rs fs s) (bind (tick p s) k)
   meets-line {i = i} {fs = fs} k a h = meets-tick k (keeps-at i fs None (at-use t a) tt) (at-head t a) h
 
-  pub meets-use : {A : Type 0} {Q : A → ℕ → Machine → Type 0} {i j : ℕ} {vs : List Value} {rs : List ℕ} {fs : Frames} {s : ℕ} {c : Instruction} {p : Place} {x : Name} {cs : List (Instruction × Place)} {us : Uses} (k : Unit {0} → Run A) (env : Env) (st : Store) → Stand (t .code) st env fs → At t i ((c, p) ∷ cs) (Some (x, scopeOf env) ∷ us) j → (s < mostSteps → After Q (act c p (mach i vs rs fs (s + 1))) (k tt (s + 1))) → Meets Q (mach i vs rs fs s) (bind (tick p s) k)
-  meets-use {i = i} {fs = fs} {x = x} k env st w a h = meets-tick k (keeps-at i fs (Some (x, scopeOf env)) (at-use t a) (env, st, refl, w)) (at-head t a) h
+  pub meets-use : {A : Type 0} {Q : A → ℕ → Machine → Type 0} {i j : ℕ} {vs : List Value} {rs : List ℕ} {fs : Frames} {s : ℕ} {c : Instruction} {p : Place} {x : Name} {cs : List (Instruction × Place)} {us : Uses} (k : Unit {0} → Run A) (env : Env) (st : Store) → Visible (find x (scopeOf env)) → Stand (t .code) st env fs → At t i ((c, p) ∷ cs) (Some (x, scopeOf env) ∷ us) j → (s < mostSteps → After Q (act c p (mach i vs rs fs (s + 1))) (k tt (s + 1))) → Meets Q (mach i vs rs fs s) (bind (tick p s) k)
+  meets-use {i = i} {fs = fs} {x = x} k env st v w a h = meets-tick k (keeps-at i fs (Some (x, scopeOf env)) (at-use t a) (env, st, refl, v, w)) (at-head t a) h
 
   pub after-faults : {A : Type 0} {Q : A → ℕ → Machine → Type 0} (b : Bool) (f : Fault) (p s : ℕ) {x : Next} (k : Unit {0} → Run A) → After Q x (k tt s) → After Q (cond b (stop f p s) x) (bind (faults b f p s) k)
   after-faults true f p s k x = halted

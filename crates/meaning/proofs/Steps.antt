@@ -90,18 +90,18 @@ data Did (m : Machine) : Next → Type 0 where
   fell : {f : Fault} {p : Place} → faultAt f (m .steps) ≡ m .steps → Did m (stop f p (m .steps))
   hung : Did m stuck
 
-within : (i : ℕ) (vs : List Value) (rs : List ℕ) (fs : Frames) (s : ℕ) → length vs ≤ mostValues → length rs ≤ mostReturns → Fit fs → Within (record { at = i; values = vs; returns = rs; frames = fs; steps = s })
-within i vs rs fs s v r h = record { values = v; returns = r; frames = h .0; slots = h .1 }
+within : (i : ℕ) (vs : List Value) (rs : List ℕ) (fs : Frames) (s : ℕ) → s ≤ mostSteps → length vs ≤ mostValues → length rs ≤ mostReturns → Fit fs → Within (record { at = i; values = vs; returns = rs; frames = fs; steps = s })
+within i vs rs fs s n v r h = record { values = v; returns = r; frames = h .0; slots = h .1; steps = n }
 
 did-on : (i : ℕ) (vs : List Value) (m : Machine) → length vs ≤ length (m .values) → Did m (on i vs m)
-did-on i vs m l = did refl (λ w. within i vs (m .returns) (m .frames) (m .steps) (let x = w .values in omega arith) (w .returns) (w .frames, w .slots))
+did-on i vs m l = did refl (λ w. within i vs (m .returns) (m .frames) (m .steps) (w .steps) (let x = w .values in omega arith) (w .returns) (w .frames, w .slots))
 
 did-pushed : (v : Value) (p : Place) (m : Machine) → Did m (pushed v p m)
 did-pushed v p m = by (leb mostValues (length (m .values))) refl
   where
     by : (b : Bool) → leb mostValues (length (m .values)) ≡ b → Did m (cond b (failed fault.Values p m) (on (m .at + 1) (v ∷ m .values) m))
     by true e = fell refl
-    by false e = did refl (λ w. within _ _ _ _ _ (let x = nleb→lt mostValues (length (m .values)) (not-true _ e) in omega arith) (w .returns) (w .frames, w .slots))
+    by false e = did refl (λ w. within _ _ _ _ _ (w .steps) (let x = nleb→lt mostValues (length (m .values)) (not-true _ e) in omega arith) (w .returns) (w .frames, w .slots))
 
 did-loaded : (r : Result Slot Refusal) (p : Place) (m : Machine) → Did m (loaded r p m)
 did-loaded (Err e) p m = hung
@@ -205,7 +205,7 @@ did-answered (Ok u) n p m d = d
 did-answered (Err e) n p m d = did-refused e p m
 
 did-built : (i : ℕ) (vs : List Value) (b : Built) (p : Place) (m : Machine) → length vs ≤ length (m .values) → (Fit (m .frames) → Fit (b .after)) → Did m (built i vs b p m)
-did-built i vs b p m l h = did-answered (b .answer) _ p m (did refl (λ w. within i vs (m .returns) (b .after) (m .steps) (let x = w .values in omega arith) (w .returns) (h (w .frames, w .slots))))
+did-built i vs b p m l h = did-answered (b .answer) _ p m (did refl (λ w. within i vs (m .returns) (b .after) (m .steps) (w .steps) (let x = w .values in omega arith) (w .returns) (h (w .frames, w .slots))))
 
 did-filling : (o : ℕ) (vs : List Value) (p : Place) (m : Machine) → length vs ≤ length (m .values) → Did m (filling o vs p m)
 did-filling o [] p m l = hung
@@ -240,7 +240,7 @@ did-calledAt k None m h = hung
 did-calledAt k (Some a) m h = by (ltb (length (m .returns)) mostReturns) refl
   where
     by : (b : Bool) → ltb (length (m .returns)) mostReturns ≡ b → Did m (cond b (go (record { at = k; values = a .0; returns = (m .at + 1) ∷ m .returns; frames = a .1; steps = m .steps })) stuck)
-    by true e = did refl (λ w. within _ _ _ _ _ (h w .0) (ltb→lt _ _ (subst T (sym e) tt)) (h w .1))
+    by true e = did refl (λ w. within _ _ _ _ _ (w .steps) (h w .0) (ltb→lt _ _ (subst T (sym e) tt)) (h w .1))
     by false e = hung
 
 did-called : (r : Result Slot Refusal) (h n : ℕ) (p : Place) (m : Machine) → Did m (called r h n p m)
@@ -252,7 +252,7 @@ did-called (Ok (slot.Position k)) h n p m = did-answered (entered (m .frames) h 
 
 did-returned : (rs : List ℕ) (p : Place) (m : Machine) → length rs ≤ length (m .returns) → Did m (returned rs p m)
 did-returned [] p m l = hung
-did-returned (k ∷ rs) p m l = did-answered (left (m .frames) .answer) _ p m (did refl (λ w. within _ _ _ _ _ (w .values) (let x = w .returns in omega arith) (left-fit (m .frames) (w .frames, w .slots))))
+did-returned (k ∷ rs) p m l = did-answered (left (m .frames) .answer) _ p m (did refl (λ w. within _ _ _ _ _ (w .steps) (w .values) (let x = w .returns in omega arith) (left-fit (m .frames) (w .frames, w .slots))))
 
 did-act : (c : Instruction) (p : Place) (m : Machine) → Did m (act c p m)
 did-act (Push v) p m = did-pushed v p m
@@ -284,23 +284,23 @@ did-act (Store h o) p m = did-storing h o (m .values) p m (omega arith)
 
 -- a step counts one; a fault shows at the step after those done before it
 abbrev pub Counts : Machine → Next → Type 0
-Counts m (go n) = (n .steps ≡ m .steps + 1) × (Within m → Within n)
-Counts m (stop f p t) = faultAt f t ≡ m .steps + 1
+Counts m (go n) = (n .steps ≡ m .steps + 1) × (Within m → Within n) × (n .steps ≤ mostSteps)
+Counts m (stop f p t) = (faultAt f t ≡ m .steps + 1) × (m .steps ≤ mostSteps → t ≤ mostSteps)
 Counts m ended = Unit {0}
 Counts m stuck = Unit {0}
 
-did-counts : (m : Machine) {n : Next} → Did (counted m) n → Counts m n
-did-counts m (did e h) = (e, λ w. h (record { values = w .values; returns = w .returns; frames = w .frames; slots = w .slots }))
-did-counts m (fell e) = e
-did-counts m hung = tt
+did-counts : (m : Machine) {n : Next} → m .steps < mostSteps → Did (counted m) n → Counts m n
+did-counts m l (did e h) = (e, λ w. h (record { values = w .values; returns = w .returns; frames = w .frames; slots = w .slots; steps = omega arith }), omega arith)
+did-counts m l (fell e) = (e, λ w. omega arith)
+did-counts m l hung = tt
 
 pub step-counts : (code : Code) (m : Machine) → Counts m (step code m)
 unfolding step
 step-counts code m = by (nth code (m .at))
   where
-    limited : (b : Bool) (c : Instruction) (p : Place) → Counts m (cond b (act c p (counted m)) (failed fault.Steps p m))
-    limited true c p = did-counts m (did-act c p (counted m))
-    limited false c p = refl
+    limited : (b : Bool) (c : Instruction) (p : Place) → ltb (m .steps) mostSteps ≡ b → Counts m (cond b (act c p (counted m)) (failed fault.Steps p m))
+    limited true c p e = did-counts m (ltb→lt (m .steps) mostSteps (subst T (sym e) tt)) (did-act c p (counted m))
+    limited false c p e = (refl, λ l. l)
     by : (o : Option (Instruction × Place)) → Counts m (fetched o m)
     by None = tt
-    by (Some c) = limited (ltb (m .steps) mostSteps) (c .0) (c .1)
+    by (Some c) = limited (ltb (m .steps) mostSteps) (c .0) (c .1) refl

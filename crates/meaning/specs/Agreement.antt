@@ -10,17 +10,18 @@ use Rattle.lang.specs.declared.name.Name.{Name}
 use Rattle.lang.specs.declared.fault.Fault.{Fault}
 use Rattle.lang.specs.declared.fault.Fault.the-variants.{Kind, Range, Frames, Slots, Values, Steps}
 use Rattle.lang.specs.declared.sheet.Entry.{Entry}
+use Rattle.lang.specs.declared.instruction.Instruction.{Instruction}
 use Rattle.frames.specs.Frames.{count, total}
-use Rattle.meaning.specs.Tree.{Command, nodesC}
-use Rattle.meaning.specs.Limits.{mostFrames, mostSlots, mostValues, mostReturns}
-use Rattle.meaning.specs.Scopes.{Scope, find}
+use Rattle.meaning.specs.Tree.{Place, Command, nodesC}
+use Rattle.meaning.specs.Limits.{mostSteps, mostFrames, mostSlots, mostValues, mostReturns}
+use Rattle.meaning.specs.Scopes.{Scope, Use, find}
 use Rattle.meaning.specs.Violations.{violations}
 use Rattle.meaning.specs.Translation.{Code, translated}
 use Rattle.meaning.specs.Machine.{Machine, Next, go, stop, ended, stuck, after, goes}
-use Rattle.meaning.specs.Meaning.{Env, Store, lookup}
+use Rattle.meaning.specs.Meaning.{Meant, Env, Store, lookup}
 use Rattle.meaning.specs.Runs.{Outcome, done, faulty, Ending, meaning, start, sheetFrames}
-use Rattle.meaning.specs.Uses.{used}
-use Rattle.meaning.specs.Pairs.{scopeOf, Stand, Agrees}
+use Rattle.meaning.specs.Uses.{used, pairOf}
+use Rattle.meaning.specs.Pairs.{scopeOf, Stand, Agree}
 
 -- At which step of the machine a fault shows, when t steps are done: the faulting step is done and counted, but for fault 26.
 abbrev pub faultAt : Fault → ℕ → ℕ
@@ -75,22 +76,37 @@ pub record Within (m : Machine) : Type 0 where
   pub returns : length (m .returns) ≤ mostReturns
   pub frames : count (m .frames) ≤ mostFrames
   pub slots : total (m .frames) ≤ mostSlots
+  pub steps : m .steps ≤ mostSteps
+
+-- No run has more than 1,000,000 steps.
+abbrev pub Runs-end : Type 0
+Runs-end = (es : List Entry) (c : Command) → violations es c ≡ [] → meaning es c .steps ≤ mostSteps
 
 -- The memory suffices: whatever the code, a run from at most 32 entries never has more of anything than the limits say.
 abbrev pub Memory-suffices : Type 0
 Memory-suffices = (es : List Entry) (code : Code) (k : ℕ) (m : Machine) → length es ≤ 32 → goes code k (start es) ≡ go m → Within m
 
--- The pair law. Whenever the run is at an instruction that came from the use of a name, the frames stand for an environment of the scope
--- around that use. So the name's pair leads to the frame of its innermost visible declaration and there to the slot that holds what the name stands for.
-pub record Leads (code : Code) (x : Name) (g : Scope) (m : Machine) : Type 0 where
+-- The pair law. Whenever the run is at an instruction with a pair, that instruction came from the use of a name x in a scope g, the pair is that
+-- of the innermost visible declaration of x in g, and the frames stand for an environment of that scope. So the frame h hops outward is that of the
+-- declaration, and its slot o holds what the environment says that x stands for.
+pub record Leads (code : Code) (m : Machine) (used : Option (Option (Name × Scope))) (h o : ℕ) : Type 0 where
+  pub name : Name
+  pub scope : Scope
+  pub from : used ≡ Some (Some (name, scope))
+  pub declared : Use
+  pub visible : find name scope ≡ Some declared
+  pub hops : declared .hops ≡ h
+  pub offset : declared .offset ≡ o
   pub env : Env
   pub store : Store
-  pub scope : scopeOf env ≡ g
+  pub around : scopeOf env ≡ scope
   pub stand : Stand code store env (m .frames)
-  pub agrees : Agrees code store (m .frames) (lookup x env) (find x g)
+  pub found : Meant × Env
+  pub looked : lookup name env ≡ Some found
+  pub agree : Agree code store (m .frames) found declared
 
 abbrev pub Pair-law : Type 0
-Pair-law = (es : List Entry) (c : Command) → violations es c ≡ [] → (k : ℕ) (m : Machine) (x : Name) (g : Scope) → goes (translated es c) k (start es) ≡ go m → nth (used es c) (m .at) ≡ Some (Some (x, g)) → Leads (translated es c) x g m
+Pair-law = (es : List Entry) (c : Command) → violations es c ≡ [] → (k : ℕ) (m : Machine) (i : Instruction) (p : Place) (h o : ℕ) → goes (translated es c) k (start es) ≡ go m → nth (translated es c) (m .at) ≡ Some (i, p) → pairOf i ≡ Some (h, o) → Leads (translated es c) m (nth (used es c) (m .at)) h o
 
 -- The code has at most three instructions a node, so 12,288 suffice for 4,096 nodes.
 abbrev pub Code-is-short : Type 0

@@ -5,6 +5,8 @@ use Rattle.std.specs.declared.option.Option.{Option}
 use Rattle.std.specs.declared.option.Option.the-variants.{Some, None}
 use Rattle.lang.specs.declared.name.Name.{Name}
 use Rattle.lang.specs.declared.sheet.Entry.{Entry}
+use Rattle.lang.specs.declared.instruction.Instruction.{Instruction}
+use Rattle.lang.specs.declared.instruction.Instruction.the-variants.{Push, Load, Minus, Not, Add, Sub, Mul, Equal, Less, And, Or, Pick, Fork, Skip, Leave, Again, Open, Fill, Shut, Fun, Proc, Call, Do, Back, Store, Let}
 use Rattle.meaning.specs.Tree.{Expr, number, truth, read, signed, binary, both, either, choose, local, apply, Args, no-args, arg, Data, no-data, const, var, Command, block, assign, perform, fork, while, Commands, no-commands, then, Routines, no-routines, fun, proc}
 use Rattle.meaning.specs.Scopes.{Scope, constant, params, dataNames, blockNames, sheetScope}
 
@@ -57,3 +59,32 @@ unfoldable mutual
 -- the uses of a rule over a sheet
 abbrev pub used : List Entry → Command → Uses
 used es c = usesC (sheetScope es) c
+
+-- the pair of hops and offset that an instruction has
+abbrev pub pairOf : Instruction → Option (ℕ × ℕ)
+pairOf (Load h o) = Some (h, o)
+pairOf (Store h o) = Some (h, o)
+pairOf (Call h o n) = Some (h, o)
+pairOf (Do h o n) = Some (h, o)
+pairOf (Push v) = None
+pairOf (Pick d) = None
+pairOf (Fork d) = None
+pairOf (Skip d) = None
+pairOf (Leave d) = None
+pairOf (Again d) = None
+pairOf (Open n) = None
+pairOf (Fill o b) = None
+pairOf (Fun o d n) = None
+pairOf (Proc o d n) = None
+pairOf Minus = None
+pairOf Not = None
+pairOf Add = None
+pairOf Sub = None
+pairOf Mul = None
+pairOf Equal = None
+pairOf Less = None
+pairOf And = None
+pairOf Or = None
+pairOf Shut = None
+pairOf Back = None
+pairOf Let = None
