@@ -11,5 +11,6 @@ pub mod Pairing
 pub mod Besides
 pub mod Steps
 pub mod Whole
+pub mod Serves
 pub mod Least
 pub mod Short

@@ -1,17 +1,25 @@
 -- The code of a rule does what the rule's named meaning says: the theorems on runs.
 use Prim.Native.Nat.{ℕ, zero, suc, _+_, _*_, _≤_, _<_}
 use mathlib.Core.Path.{_≡_}
+use mathlib.Core.Logic.{_⊎_}
 use mathlib.Core.List.{List, [], _∷_}
 use lib.ListN.{length}
 use Rattle.std.specs.Finite.{nth}
 use Rattle.std.specs.declared.option.Option.{Option}
 use Rattle.std.specs.declared.option.Option.the-variants.{Some, None}
+use Rattle.std.specs.declared.result.Result.{Result}
+use Rattle.std.specs.declared.result.Result.the-variants.{Ok, Err}
 use Rattle.lang.specs.declared.name.Name.{Name}
+use Rattle.lang.specs.declared.value.Slot.{Slot}
+use Rattle.lang.specs.declared.value.Slot.the-variants.{Unset}
+use Rattle.lang.specs.declared.refusal.Refusal.{Refusal}
+use Rattle.lang.specs.declared.refusal.Refusal.the-variants.{TooManyFrames, TooManySlots}
 use Rattle.lang.specs.declared.fault.Fault.{Fault}
-use Rattle.lang.specs.declared.fault.Fault.the-variants.{Kind, Range, Frames, Slots, Values, Steps}
+use Rattle.lang.specs.declared.fault.Fault.the-variants.{Kind, Range, Frames as FramesFault, Slots, Values, Steps}
 use Rattle.lang.specs.declared.sheet.Entry.{Entry}
 use Rattle.lang.specs.declared.instruction.Instruction.{Instruction}
-use Rattle.frames.specs.Frames.{count, total}
+use Rattle.lang.specs.declared.instruction.Instruction.the-variants.{Push, Load, Minus, Not, Add, Sub, Mul, Equal, Less, And, Or, Pick, Fork, Skip, Leave, Again, Open, Fill, Shut, Fun, Proc, Call, Do, Back, Store as Storing, Let}
+use Rattle.frames.specs.Frames.{Frames, count, total, got, opened, entered, left, written}
 use Rattle.meaning.specs.Tree.{Place, Command, nodesC}
 use Rattle.meaning.specs.Limits.{mostSteps, mostFrames, mostSlots, mostValues, mostReturns}
 use Rattle.meaning.specs.Scopes.{Scope, Use, find}
@@ -27,7 +35,7 @@ use Rattle.meaning.specs.Pairs.{scopeOf, Stand, Agree}
 abbrev pub faultAt : Fault → ℕ → ℕ
 faultAt Kind t = t
 faultAt Range t = t
-faultAt Frames t = t
+faultAt FramesFault t = t
 faultAt Slots t = t
 faultAt Values t = t
 faultAt Steps t = t + 1
@@ -61,10 +69,56 @@ pub record Runs-as (code : Code) (es : List Entry) (e : Ending) : Type 0 where
 abbrev pub Code-means : Type 0
 Code-means = (es : List Entry) (c : Command) → violations es c ≡ [] → Runs-as (translated es c) es (meaning es c)
 
--- No such run is stuck. So no instruction misses a value, a return position or a slot, none finds a slot that holds something else,
--- the frame memory never refuses by 27 or 28, and there is always room for a return position.
+-- No such run is stuck: no instruction misses a value, a return position or a slot, none finds a slot that holds something else, and there is
+-- always room for a return position.
 abbrev pub Never-stuck : Type 0
 Never-stuck = (es : List Entry) (c : Command) → violations es c ≡ [] → (k : ℕ) → goes (translated es c) k (start es) ≡ stuck → ⊥
+
+-- What the frame memory answers to that which an instruction asks of it first. What a write answers does not depend on what is written.
+abbrev pub looking : Result Slot Refusal → Result (Unit {0}) Refusal
+looking (Ok s) = Ok tt
+looking (Err e) = Err e
+
+abbrev pub asks : Instruction → Frames → List (Result (Unit {0}) Refusal)
+asks (Load h o) fs = looking (got fs h o) ∷ []
+asks (Storing h o) fs = looking (got fs h o) ∷ written fs h o Unset .answer ∷ []
+asks (Call h o n) fs = looking (got fs h o) ∷ entered fs h n .answer ∷ []
+asks (Do h o n) fs = looking (got fs h o) ∷ entered fs h n .answer ∷ []
+asks (Open n) fs = opened fs n .answer ∷ []
+asks Let fs = opened fs 1 .answer ∷ []
+asks (Fill o b) fs = written fs 0 o Unset .answer ∷ []
+asks (Fun o d n) fs = written fs 0 o Unset .answer ∷ []
+asks (Proc o d n) fs = written fs 0 o Unset .answer ∷ []
+asks Shut fs = left fs .answer ∷ []
+asks Back fs = left fs .answer ∷ []
+asks (Push v) fs = []
+asks (Pick d) fs = []
+asks (Fork d) fs = []
+asks (Skip d) fs = []
+asks (Leave d) fs = []
+asks (Again d) fs = []
+asks Minus fs = []
+asks Not fs = []
+asks Add fs = []
+asks Sub fs = []
+asks Mul fs = []
+asks Equal fs = []
+asks Less fs = []
+asks And fs = []
+asks Or fs = []
+
+-- the memory does it, or refuses by 23 or 24, which are faults of the run: never by 27 or 28
+abbrev pub Serves : Result (Unit {0}) Refusal → Type 0
+Serves (Ok u) = Unit {0}
+Serves (Err e) = (e ≡ TooManyFrames) ⊎ (e ≡ TooManySlots)
+
+abbrev pub ServesAll : List (Result (Unit {0}) Refusal) → Type 0
+ServesAll [] = Unit {0}
+ServesAll (r ∷ rs) = Serves r × ServesAll rs
+
+-- Whatever such a run asks of the frame memory, the memory serves.
+abbrev pub Frames-serve : Type 0
+Frames-serve = (es : List Entry) (c : Command) → violations es c ≡ [] → (k : ℕ) (m : Machine) (i : Instruction) (p : Place) → goes (translated es c) k (start es) ≡ go m → m .steps < mostSteps → nth (translated es c) (m .at) ≡ Some (i, p) → ServesAll (asks i (m .frames))
 
 -- n steps and then k steps are n + k steps
 abbrev pub Runs-cut : Type 0
