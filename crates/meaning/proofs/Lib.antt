@@ -9,6 +9,7 @@ pub mod Blocks
 pub mod Commands
 pub mod Pairing
 pub mod Besides
+pub mod Depth
 pub mod Steps
 pub mod Whole
 pub mod Serves

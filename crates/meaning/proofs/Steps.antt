@@ -29,42 +29,38 @@ use Rattle.meaning.specs.Limits.{mostSteps, mostFrames, mostSlots, mostValues,
 use Rattle.meaning.specs.Operators.{Worked, fits, ranged, worked, conjoined, disjoined, withSign, alike}
 use Rattle.meaning.specs.Translation.{Code}
 use Rattle.meaning.specs.Machine.{Machine, Next, go, stop, ended, stuck, failed, on, onFrames, pushed, loadedValue, loaded, gives, onOne, onTwo, branched, faultOf, refusedBy, answered, built, filling, storedOver, storedIn, storing, moved, calledAt, called, returned, act, counted, fetched, step, after, goes}
-use Rattle.meaning.specs.Agreement.{faultAt, Within}
+use Rattle.meaning.specs.Agreement.{faultAt, Shallow, Within}
+use Rattle.meaning.proofs.Depth.{Older, whole, walk-older, grown-shallow, filled-count, filled-shallow}
 
 -- frames within their memory
 abbrev Fit : Frames → Type 0
-Fit fs = (count fs ≤ mostFrames) × (total fs ≤ mostSlots)
+Fit fs = (count fs ≤ mostFrames) × (total fs ≤ mostSlots) × Shallow fs
+
+abbrev Sized : Frames → Type 0
+Sized fs = (count fs ≤ mostFrames) × (total fs ≤ mostSlots)
 
 not-true : (b : Bool) → b ≡ false → T (not b)
 not-true b e = subst (λ (b : Bool). T (not b)) (sym e) tt
 
-grown-fit : (fs gs : Frames) (n : ℕ) → Fit fs → Fit (grown fs gs n .after)
-grown-fit fs gs n h = by (leb 256 (count fs)) (ltb 2048 (total fs + n)) (deep gs) refl refl
+grown-fit : (fs gs : Frames) (n : ℕ) → Older gs fs → Fit fs → Fit (grown fs gs n .after)
+grown-fit fs gs n t h = let r = by (leb 256 (count fs)) (ltb 2048 (total fs + n)) (deep gs) refl refl in (r .0, r .1, grown-shallow fs gs n t (h .2))
   where
-    by : (a b c : Bool) → leb 256 (count fs) ≡ a → ltb 2048 (total fs + n) ≡ b → Fit (cond a (refused TooManyFrames fs) (cond b (refused TooManySlots fs) (cond c (refused ChainTooDeep fs) (done (fs ▷ fresh n (newest gs))))) .after)
-    by true b c p q = h
-    by false true c p q = h
-    by false false true p q = h
+    by : (a b c : Bool) → leb 256 (count fs) ≡ a → ltb 2048 (total fs + n) ≡ b → Sized (cond a (refused TooManyFrames fs) (cond b (refused TooManySlots fs) (cond c (refused ChainTooDeep fs) (done (fs ▷ fresh n (newest gs))))) .after)
+    by true b c p q = (h .0, h .1)
+    by false true c p q = (h .0, h .1)
+    by false false true p q = (h .0, h .1)
     by false false false p q = let x = nleb→lt 256 (count fs) (not-true _ p) in let y = nltb→le 2048 (total fs + n) (not-true _ q) in let z = length-replicate n slot.Unset in (omega arith, omega arith)
 
 entered-fit : (fs : Frames) (h n : ℕ) → Fit fs → Fit (entered fs h n .after)
-entered-fit fs h n x = by (walk h fs)
+entered-fit fs h n x = by (walk h fs) (walk-older h fs)
   where
-    by : (gs : Frames) → Fit (enteredFrom fs gs n .after)
-    by none = x
-    by (gs ▷ g) = grown-fit fs (gs ▷ g) n x
+    by : (gs : Frames) → Older gs fs → Fit (enteredFrom fs gs n .after)
+    by none t = x
+    by (gs ▷ g) t = grown-fit fs (gs ▷ g) n t x
 
 left-fit : (fs : Frames) → Fit fs → Fit (left fs .after)
 left-fit none h = h
-left-fit (fs ▷ f) h = let x = h .0 in let y = h .1 in (omega arith, omega arith)
-
-filled-count : (k o : ℕ) (v : Slot) (fs : Frames) → count (filledIn k o v fs) ≡ count fs
-filled-count k o v none = refl
-filled-count k o v (fs ▷ f) = by (eqb k (count fs)) (filled-count k o v fs)
-  where
-    by : (b : Bool) → count (filledIn k o v fs) ≡ count fs → count (cond b (fs ▷ filled f o v) (filledIn k o v fs ▷ f)) ≡ suc (count fs)
-    by true e = refl
-    by false e = ap suc e
+left-fit (fs ▷ f) h = let x = h .0 in let y = h .1 in (omega arith, omega arith, h .2 .1)
 
 filled-total : (k o : ℕ) (v : Slot) (fs : Frames) → total (filledIn k o v fs) ≡ total fs
 filled-total k o v none = refl
@@ -78,7 +74,7 @@ written-fit : (fs : Frames) (h o : ℕ) (v : Slot) → Fit fs → Fit (written f
 written-fit fs h o v x = by (walk h fs)
   where
     in-frame : (b : Bool) (k : ℕ) → Fit (cond b (done (filledIn k o v fs)) (refused NoSuchSlot fs) .after)
-    in-frame true k = let y = filled-count k o v fs in let z = filled-total k o v fs in let a = x .0 in let b = x .1 in (omega arith, omega arith)
+    in-frame true k = let y = filled-count k o v fs in let z = filled-total k o v fs in let a = x .0 in let b = x .1 in (omega arith, omega arith, filled-shallow k o v fs (x .2))
     in-frame false k = x
     by : (gs : Frames) → Fit (writtenFrom fs gs o v .after)
     by none = x
@@ -91,17 +87,17 @@ data Did (m : Machine) : Next → Type 0 where
   hung : Did m stuck
 
 within : (i : ℕ) (vs : List Value) (rs : List ℕ) (fs : Frames) (s : ℕ) → s ≤ mostSteps → length vs ≤ mostValues → length rs ≤ mostReturns → Fit fs → Within (record { at = i; values = vs; returns = rs; frames = fs; steps = s })
-within i vs rs fs s n v r h = record { values = v; returns = r; frames = h .0; slots = h .1; steps = n }
+within i vs rs fs s n v r h = record { values = v; returns = r; frames = h .0; slots = h .1; chains = h .2; steps = n }
 
 did-on : (i : ℕ) (vs : List Value) (m : Machine) → length vs ≤ length (m .values) → Did m (on i vs m)
-did-on i vs m l = did refl (λ w. within i vs (m .returns) (m .frames) (m .steps) (w .steps) (let x = w .values in omega arith) (w .returns) (w .frames, w .slots))
+did-on i vs m l = did refl (λ w. within i vs (m .returns) (m .frames) (m .steps) (w .steps) (let x = w .values in omega arith) (w .returns) (w .frames, w .slots, w .chains))
 
 did-pushed : (v : Value) (p : Place) (m : Machine) → Did m (pushed v p m)
 did-pushed v p m = by (leb mostValues (length (m .values))) refl
   where
     by : (b : Bool) → leb mostValues (length (m .values)) ≡ b → Did m (cond b (failed fault.Values p m) (on (m .at + 1) (v ∷ m .values) m))
     by true e = fell refl
-    by false e = did refl (λ w. within _ _ _ _ _ (w .steps) (let x = nleb→lt mostValues (length (m .values)) (not-true _ e) in omega arith) (w .returns) (w .frames, w .slots))
+    by false e = did refl (λ w. within _ _ _ _ _ (w .steps) (let x = nleb→lt mostValues (length (m .values)) (not-true _ e) in omega arith) (w .returns) (w .frames, w .slots, w .chains))
 
 did-loaded : (r : Result Slot Refusal) (p : Place) (m : Machine) → Did m (loaded r p m)
 did-loaded (Err e) p m = hung
@@ -205,7 +201,7 @@ did-answered (Ok u) n p m d = d
 did-answered (Err e) n p m d = did-refused e p m
 
 did-built : (i : ℕ) (vs : List Value) (b : Built) (p : Place) (m : Machine) → length vs ≤ length (m .values) → (Fit (m .frames) → Fit (b .after)) → Did m (built i vs b p m)
-did-built i vs b p m l h = did-answered (b .answer) _ p m (did refl (λ w. within i vs (m .returns) (b .after) (m .steps) (w .steps) (let x = w .values in omega arith) (w .returns) (h (w .frames, w .slots))))
+did-built i vs b p m l h = did-answered (b .answer) _ p m (did refl (λ w. within i vs (m .returns) (b .after) (m .steps) (w .steps) (let x = w .values in omega arith) (w .returns) (h (w .frames, w .slots, w .chains))))
 
 did-filling : (o : ℕ) (vs : List Value) (p : Place) (m : Machine) → length vs ≤ length (m .values) → Did m (filling o vs p m)
 did-filling o [] p m l = hung
@@ -248,11 +244,11 @@ did-called (Err e) h n p m = hung
 did-called (Ok slot.Unset) h n p m = hung
 did-called (Ok (slot.Number z)) h n p m = hung
 did-called (Ok (slot.Truth b)) h n p m = hung
-did-called (Ok (slot.Position k)) h n p m = did-answered (entered (m .frames) h n .answer) _ p m (did-calledAt k (moved n (m .values) (entered (m .frames) h n .after)) m (λ w. moved-fit n mostValues (m .values) (entered (m .frames) h n .after) (w .values) (entered-fit (m .frames) h n (w .frames, w .slots))))
+did-called (Ok (slot.Position k)) h n p m = did-answered (entered (m .frames) h n .answer) _ p m (did-calledAt k (moved n (m .values) (entered (m .frames) h n .after)) m (λ w. moved-fit n mostValues (m .values) (entered (m .frames) h n .after) (w .values) (entered-fit (m .frames) h n (w .frames, w .slots, w .chains))))
 
 did-returned : (rs : List ℕ) (p : Place) (m : Machine) → length rs ≤ length (m .returns) → Did m (returned rs p m)
 did-returned [] p m l = hung
-did-returned (k ∷ rs) p m l = did-answered (left (m .frames) .answer) _ p m (did refl (λ w. within _ _ _ _ _ (w .steps) (w .values) (let x = w .returns in omega arith) (left-fit (m .frames) (w .frames, w .slots))))
+did-returned (k ∷ rs) p m l = did-answered (left (m .frames) .answer) _ p m (did refl (λ w. within _ _ _ _ _ (w .steps) (w .values) (let x = w .returns in omega arith) (left-fit (m .frames) (w .frames, w .slots, w .chains))))
 
 did-act : (c : Instruction) (p : Place) (m : Machine) → Did m (act c p m)
 did-act (Push v) p m = did-pushed v p m
@@ -271,8 +267,8 @@ did-act (Fork d) p m = did-branched d (m .values) p m (omega arith)
 did-act (Leave d) p m = did-branched d (m .values) p m (omega arith)
 did-act (Skip d) p m = did-on _ (m .values) m (omega arith)
 did-act (Again d) p m = did-on _ (m .values) m (omega arith)
-did-act (Open n) p m = did-built _ (m .values) (opened (m .frames) n) p m (omega arith) (grown-fit (m .frames) (m .frames) n)
-did-act Let p m = did-built _ (m .values) (opened (m .frames) 1) p m (omega arith) (grown-fit (m .frames) (m .frames) 1)
+did-act (Open n) p m = did-built _ (m .values) (opened (m .frames) n) p m (omega arith) (grown-fit (m .frames) (m .frames) n whole)
+did-act Let p m = did-built _ (m .values) (opened (m .frames) 1) p m (omega arith) (grown-fit (m .frames) (m .frames) 1 whole)
 did-act Shut p m = did-built _ (m .values) (left (m .frames)) p m (omega arith) (left-fit (m .frames))
 did-act (Fill o b) p m = did-filling o (m .values) p m (omega arith)
 did-act (Fun o d n) p m = did-built _ (m .values) (written (m .frames) 0 o (slot.Position (m .at + 1))) p m (omega arith) (written-fit (m .frames) 0 o _)
@@ -290,7 +286,7 @@ Counts m ended = Unit {0}
 Counts m stuck = Unit {0}
 
 did-counts : (m : Machine) {n : Next} → m .steps < mostSteps → Did (counted m) n → Counts m n
-did-counts m l (did e h) = (e, λ w. h (record { values = w .values; returns = w .returns; frames = w .frames; slots = w .slots; steps = omega arith }), omega arith)
+did-counts m l (did e h) = (e, λ w. h (record { values = w .values; returns = w .returns; frames = w .frames; slots = w .slots; chains = w .chains; steps = omega arith }), omega arith)
 did-counts m l (fell e) = (e, λ w. omega arith)
 did-counts m l hung = tt
 

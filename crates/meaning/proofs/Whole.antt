@@ -347,7 +347,7 @@ runs-end es c g = by (meaning es c) (runs-as es c g)
     by e r = of (e .outcome) (e .steps) (r .leaves) (r .at-end)
 
 start-within : (es : List Entry) → length es ≤ mostSlots → Within (start es)
-start-within es l = record { values = omega arith; returns = omega arith; frames = omega arith; slots = (let x = length-map es (λ e. slotOf (e .value)) in omega arith); steps = omega arith }
+start-within es l = record { values = omega arith; returns = omega arith; frames = omega arith; slots = (let x = length-map es (λ e. slotOf (e .value)) in omega arith); chains = (refl, tt); steps = omega arith }
 
 pub memory-suffices : Memory-suffices
 memory-suffices es code k m l e = subst Kept-within e (stays-within code k (start es) (start-within es (omega arith)))

@@ -19,9 +19,9 @@ use Rattle.lang.specs.declared.fault.Fault.the-variants.{Kind, Range, Frames as
 use Rattle.lang.specs.declared.sheet.Entry.{Entry}
 use Rattle.lang.specs.declared.instruction.Instruction.{Instruction}
 use Rattle.lang.specs.declared.instruction.Instruction.the-variants.{Push, Load, Minus, Not, Add, Sub, Mul, Equal, Less, And, Or, Pick, Fork, Skip, Leave, Again, Open, Fill, Shut, Fun, Proc, Call, Do, Back, Store as Storing, Let}
-use Rattle.frames.specs.Frames.{Frames, count, total, got, opened, entered, left, written}
+use Rattle.frames.specs.Frames.{Frames, none, _▷_, walk, count, total, got, opened, entered, left, written}
 use Rattle.meaning.specs.Tree.{Place, Command, nodesC}
-use Rattle.meaning.specs.Limits.{mostSteps, mostFrames, mostSlots, mostValues, mostReturns}
+use Rattle.meaning.specs.Limits.{mostNested, mostSteps, mostFrames, mostSlots, mostValues, mostReturns}
 use Rattle.meaning.specs.Scopes.{Scope, Use, find}
 use Rattle.meaning.specs.Violations.{violations}
 use Rattle.meaning.specs.Translation.{Code, translated}
@@ -124,12 +124,18 @@ Frames-serve = (es : List Entry) (c : Command) → violations es c ≡ [] → (k
 abbrev pub Runs-cut : Type 0
 Runs-cut = (code : Code) (n k : ℕ) (m : Machine) → goes code (n + k) m ≡ after (goes code n m) (goes code k)
 
+-- no frame has over 16 frames in its chain of parents, itself included
+abbrev pub Shallow : Frames → Type 0
+Shallow none = Unit {0}
+Shallow (fs ▷ f) = (walk mostNested (fs ▷ f) ≡ none) × Shallow fs
+
 -- what memory a state takes
 pub record Within (m : Machine) : Type 0 where
   pub values : length (m .values) ≤ mostValues
   pub returns : length (m .returns) ≤ mostReturns
   pub frames : count (m .frames) ≤ mostFrames
   pub slots : total (m .frames) ≤ mostSlots
+  pub chains : Shallow (m .frames)
   pub steps : m .steps ≤ mostSteps
 
 -- No run has more than 1,000,000 steps.
