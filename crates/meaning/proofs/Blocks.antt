@@ -1,34 +1,31 @@
 -- The frame of a block: its data and routines fill it, slot by slot.
-use Prim.Native.Nat.{ℕ, zero, suc, _+_, _-_, _≤_, _<_}
+use Prim.Native.Nat.{ℕ, zero, suc, _+_, _≤_, _<_}
 use native.Mathlib.Omega.{arith}
 use native.Mathlib.Nat.{zero-add}
 use mathlib.Core.Path.{_≡_, refl, sym, _∙_, ap, ap₂, subst, subst₂}
 use mathlib.Core.List.{List, [], _∷_, _++_, map}
-use lib.ListN.{length, set, replicate, length-map, length-append, length-replicate}
+use lib.ListN.{length, set, replicate, length-map, length-append}
 use Rattle.std.specs.declared.option.Option.{Option}
-use Rattle.std.specs.declared.option.Option.the-variants.{Some, None}
 use Rattle.lang.specs.declared.name.Name.{Name}
 use Rattle.lang.specs.declared.value.Value.{Value}
 use Rattle.lang.specs.declared.value.Slot.{Slot}
 use Rattle.lang.specs.declared.value.Slot.the-variants as slot
-use Rattle.lang.specs.declared.instruction.Instruction.{Instruction}
-use Rattle.lang.specs.declared.instruction.Instruction.the-variants.{Fun, Proc, Back}
-use Rattle.lang.specs.Values.{slotOf}
-use Rattle.frames.specs.Frames.{Frame, Frames, none, _▷_, Built, filled, written}
-use Rattle.meaning.specs.Tree.{Place, Data, no-data, const, var, data-slots, Routines, no-routines, fun, proc, routine-slots}
-use Rattle.meaning.specs.Scopes.{Names, Scope, constant, variable, function, procedure, params, dataNames, routineNames}
-use Rattle.meaning.specs.Violations.{framed, wrongE, wrongC, wrongR}
+use Rattle.lang.specs.declared.instruction.Instruction.the-variants.{Back}
+use Rattle.frames.specs.Frames.{Frames, _▷_, Built, filled, written}
+use Rattle.meaning.specs.Tree.{Routines, no-routines, fun, proc, routine-slots}
+use Rattle.meaning.specs.Scopes.{Names, Scope, function, procedure, params, routineNames}
+use Rattle.meaning.specs.Violations.{wrongR}
 use Rattle.meaning.specs.Translation.{codeE, codeC, codeR}
-use Rattle.meaning.specs.Machine.{Machine, Next, go, answered, built}
-use Rattle.meaning.specs.Meaning.{Answer, ok, Run, bind, Meant, a-value, a-location, a-function, a-procedure, Bound, Store, valueAt, Room, inside, declared, declaring}
-use Rattle.meaning.specs.Uses.{usesE, usesC, usesR}
+use Rattle.meaning.specs.Machine.{Machine, go, answered, built}
+use Rattle.meaning.specs.Meaning.{Answer, ok, Run, bind, Meant, a-value, a-location, a-function, a-procedure, Bound, Store, inside, declared, declaring}
+use Rattle.meaning.specs.Uses.{usesR}
 use Rattle.meaning.specs.Pairs.{sortOf, names}
-use Rattle.meaning.proofs.Basics.{nil-left, nil-right, append-nil, append-assoc, length-snoc}
-use Rattle.meaning.proofs.Shades.{Cell, blank, fixed, located, entry, show, Shade, Shades, empty, _▸_, shade, height, slots, shown, written-last}
+use Rattle.meaning.proofs.Basics.{nil-left, nil-right, append-assoc, length-snoc}
+use Rattle.meaning.proofs.Shades.{Cell, blank, fixed, located, entry, show, Shades, _▸_, shade, height, slots, shown, written-last}
 use Rattle.meaning.proofs.Pieces.{Text, At, at-tail, at-end, at-length, splitR}
-use Rattle.meaning.proofs.Meets.{mach, Meets, now, After, went, meets-bind, meets-map, meets-at, after-is, meets-line}
+use Rattle.meaning.proofs.Meets.{mach, Meets, now, After, went, meets-bind, meets-at, after-is, meets-line}
 use Rattle.meaning.proofs.Chains.{roomOf, Fits, Matches}
-use Rattle.meaning.proofs.Stores.{one, occ, Sound, occ-append, occ-blanks}
+use Rattle.meaning.proofs.Stores.{occ, occ-append}
 use Rattle.meaning.proofs.Expressions.{framed-fits}
 
 pub names-append : (a b : Bound) → names (a ++ b) ≡ names a ++ names b

@@ -1,42 +1,42 @@
 -- The code of a command does what the command means.
-use Prim.Native.Nat.{ℕ, zero, suc, _+_, _-_, _≤_, _<_}
+use Prim.Native.Nat.{ℕ, zero, suc, _+_, _≤_, _<_}
 use native.Mathlib.Omega.{arith}
 use native.Mathlib.Nat.{zero-add}
 use mathlib.Core.Path.{_≡_, refl, sym, _∙_, ap, ap₂, subst, subst₂}
 use mathlib.Core.Bool.{Bool, true, false, cond}
 use mathlib.Core.List.{List, [], _∷_, _++_, map, reverseAux}
-use lib.Dec.{T, eqb, eqb→eq}
+use lib.Dec.{eqb, eqb→eq}
 use lib.ListN.{length, set, replicate, length-map, length-append, length-replicate}
 use Rattle.std.specs.declared.option.Option.{Option}
 use Rattle.std.specs.declared.option.Option.the-variants.{Some, None}
-use Rattle.std.specs.declared.result.Result.the-variants.{Ok, Err}
+use Rattle.std.specs.declared.result.Result.the-variants.{Ok}
 use Rattle.lang.specs.declared.name.Name.{Name}
 use Rattle.lang.specs.declared.value.Value.{Value}
 use Rattle.lang.specs.declared.value.Slot.{Slot}
 use Rattle.lang.specs.declared.value.Slot.the-variants as slot
-use Rattle.lang.specs.Values.{slotOf, valueIn}
+use Rattle.lang.specs.Values.{slotOf}
 use Rattle.lang.specs.declared.fault.Fault.the-variants as fault
 use Rattle.lang.specs.declared.refusal.Refusal.the-variants.{WrongCount}
 use Rattle.lang.specs.declared.instruction.Binding.the-variants.{Constant, Variable}
-use Rattle.frames.specs.Frames.{Frame, Frames, none, _▷_, newest, got, Built, filled, written}
-use Rattle.meaning.specs.Tree.{Place, Expr, Args, args, Parameter, Data, no-data, const, var, data-slots, Command, block, assign, perform, fork, while, Commands, no-commands, then, Routines, no-routines, fun, proc, routine-slots}
+use Rattle.frames.specs.Frames.{Frames, _▷_, got, Built, filled, written}
+use Rattle.meaning.specs.Tree.{Place, Expr, Args, args, Data, no-data, const, var, data-slots, Command, block, assign, perform, fork, while, Commands, no-commands, then, Routines, routine-slots}
 use Rattle.meaning.specs.Limits.{mostSteps}
-use Rattle.meaning.specs.Scopes.{Names, Scope, constant, variable, procedure, Use, find, hopsOf, offsetOf, params, dataNames, routineNames, blockNames}
+use Rattle.meaning.specs.Scopes.{Names, constant, variable, procedure, Use, find, hopsOf, offsetOf, params, dataNames, blockNames}
 use Rattle.meaning.specs.Violations.{wrong, variableUse, asVariable, procedureUse, asProcedure, wrongE, wrongA, wrongD, wrongN, wrongC, wrongS, wrongR}
 use Rattle.meaning.specs.Operators.{alike}
 use Rattle.meaning.specs.Translation.{codeE, codeA, codeD, codeC, codeS, codeR}
-use Rattle.meaning.specs.Machine.{Machine, Next, go, stop, onFrames, answered, storedOver, storedIn, storing, called, act}
-use Rattle.meaning.specs.Meaning.{Answer, ok, Run, bind, Meant, a-value, a-location, a-function, a-procedure, Bound, Env, Store, valueAt, lookup, Room, inside, opens, given, Calls, evalE, evalA, calls, Runs, evalD, declared, declaring, assigns, entersC, evalC, evalS, runs}
+use Rattle.meaning.specs.Machine.{Machine, go, stop, onFrames, answered, storedOver, storedIn, storing, called}
+use Rattle.meaning.specs.Meaning.{Answer, ok, Run, bind, Meant, a-value, a-location, a-function, a-procedure, Bound, Env, Store, valueAt, lookup, Room, inside, opens, given, Calls, evalE, evalA, calls, Runs, evalD, declared, assigns, entersC, evalC, evalS, runs}
 use Rattle.meaning.specs.Uses.{usesE, usesA, usesD, usesC, usesS, usesR}
 use Rattle.meaning.specs.Pairs.{sortOf, names, scopeOf}
-use Rattle.meaning.proofs.Basics.{from-true, cons-nil, nil-left, nil-right, append-nil, append-assoc, length-snoc, value-slot}
-use Rattle.meaning.proofs.Shades.{Cell, blank, fixed, located, entry, show, Shade, Shades, empty, _▸_, shade, height, slots, last, down, out, cellAt, shown, height-shown, slots-shown, last-shown, got-shown, whole, out-part, down-last}
+use Rattle.meaning.proofs.Basics.{from-true, cons-nil, nil-left, nil-right, append-nil, length-snoc, value-slot}
+use Rattle.meaning.proofs.Shades.{Cell, blank, fixed, located, show, Shades, _▸_, shade, height, slots, last, down, out, cellAt, shown, height-shown, slots-shown, last-shown, got-shown, whole, out-part, down-last}
 use Rattle.meaning.proofs.Pieces.{Text, At, at-tail, at-end, at-length, splitE, splitA, splitD, splitC, splitS, splitR}
-use Rattle.meaning.proofs.Meets.{mach, Visible, Meets, now, After, went, halted, meets-bind, meets-map, meets-at, after-is, meets-line, meets-use, after-unless, after-branch, after-grown}
+use Rattle.meaning.proofs.Meets.{mach, Visible, Meets, now, After, went, meets-bind, meets-map, meets-at, after-is, meets-line, meets-use, after-unless, after-branch, after-grown}
 use Rattle.meaning.proofs.Chains.{roomOf, Fits, Matches, Chain, Seen, seen, chain-stand, chain-deep, last-of}
-use Rattle.meaning.proofs.Stores.{one, occ, Sound, location-fits, written-put, sound-left, sound-set, sound-like, sound-more, occ-fixed, occ-blanks, occ-append, occ-fill, sound-new, shown-append, value-last}
-use Rattle.meaning.proofs.Expressions.{Lands, LandsA, framed-fits, fill-act, given-names, given-cells, meets-value, meets-args, after-called, Right, good, goodA, calls-right}
-use Rattle.meaning.proofs.Blocks.{names-append, names-declared, Plains, plains-snoc, fill-cells, blank-fits, filled-length, blanks-shown, room-in, plain-matches, block-matches, meets-routines, routines-good}
+use Rattle.meaning.proofs.Stores.{Sound, written-put, sound-left, sound-set, sound-like, sound-more, occ-fixed, occ-blanks, occ-append, occ-fill, sound-new, shown-append, value-last}
+use Rattle.meaning.proofs.Expressions.{Lands, framed-fits, fill-act, given-names, given-cells, meets-value, meets-args, after-called, Right, good, goodA, calls-right}
+use Rattle.meaning.proofs.Blocks.{names-append, names-declared, Plains, plains-snoc, fill-cells, blank-fits, blanks-shown, room-in, plain-matches, block-matches, meets-routines, routines-good}
 
 -- a store in which the same frames stand, at j, no fewer steps
 pub data LandsC (w : Shades) (j : ℕ) (vs : List Value) (rs : List ℕ) (s : ℕ) : Store → ℕ → Machine → Type 0 where

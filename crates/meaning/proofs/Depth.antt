@@ -1,15 +1,14 @@
 -- No chain of parents grows past 16 frames, since the frame memory refuses that.
-use Prim.Native.Nat.{ℕ, zero, suc, _+_, _≤_, _<_}
+use Prim.Native.Nat.{ℕ, zero, suc, _+_, _≤_}
 use native.Mathlib.Omega.{arith}
-use mathlib.Core.Path.{_≡_, refl, sym, _∙_, ap, ap₂, subst}
+use mathlib.Core.Path.{_≡_, refl, sym, _∙_, ap}
 use mathlib.Core.Bool.{Bool, true, false, cond}
 use lib.Dec.{eqb, ltb, leb, eqb→eq}
-use lib.ListN.{length}
 use Rattle.std.specs.declared.option.Option.{Option}
 use Rattle.std.specs.declared.option.Option.the-variants.{Some, None}
 use Rattle.lang.specs.declared.value.Slot.{Slot}
 use Rattle.lang.specs.declared.refusal.Refusal.the-variants.{TooManyFrames, TooManySlots, ChainTooDeep}
-use Rattle.frames.specs.Frames.{Frame, Frames, none, _▷_, count, total, newest, upTo, walk, Built, refused, done, stands, deep, fresh, grown, filled, filledIn}
+use Rattle.frames.specs.Frames.{Frame, Frames, none, _▷_, count, total, newest, upTo, walk, refused, done, stands, deep, fresh, grown, filled, filledIn}
 use Rattle.meaning.specs.Agreement.{Shallow}
 use Rattle.meaning.proofs.Basics.{eqb-same, eqb-less, from-true, not-both}
 

@@ -1,20 +1,17 @@
 -- The code of an expression does what the expression means.
-use Prim.Native.Nat.{ℕ, zero, suc, _+_, _-_, _≤_, _<_}
+use Prim.Native.Nat.{ℕ, zero, suc, _+_, _≤_, _<_}
 use native.Mathlib.Omega.{arith}
 use native.Mathlib.Nat.{zero-add}
 use mathlib.Core.Path.{_≡_, refl, sym, _∙_, ap, ap₂, subst, subst₂}
 use mathlib.Core.Bool.{Bool, true, false, cond}
 use mathlib.Core.List.{List, [], _∷_, _++_, map, reverseAux}
-use lib.Dec.{T, eqb, eqb→eq, ltb, leb, ltb→lt}
+use lib.Dec.{eqb, eqb→eq, ltb, leb, ltb→lt}
 use lib.ListN.{length, set, replicate, length-map, length-append, length-replicate, length-reverseAux}
-use lib.IntN.{pos}
-use Rattle.std.specs.Finite.{nth}
 use Rattle.std.specs.declared.option.Option.{Option}
 use Rattle.std.specs.declared.option.Option.the-variants.{Some, None}
 use Rattle.std.specs.declared.result.Result.the-variants.{Ok, Err}
 use Rattle.lang.specs.declared.name.Name.{Name}
 use Rattle.lang.specs.declared.value.Value.{Value}
-use Rattle.lang.specs.declared.value.Value.the-variants.{Number, Truth}
 use Rattle.lang.specs.declared.value.Slot.{Slot}
 use Rattle.lang.specs.declared.value.Slot.the-variants as slot
 use Rattle.lang.specs.Values.{slotOf, valueIn}
@@ -24,20 +21,20 @@ use Rattle.lang.specs.declared.refusal.Refused.{Refused}
 use Rattle.lang.specs.declared.instruction.Binding.{Binding}
 use Rattle.lang.specs.declared.instruction.Binding.the-variants.{Constant}
 use Rattle.lang.specs.declared.instruction.Instruction.{Instruction}
-use Rattle.lang.specs.declared.instruction.Instruction.the-variants.{Push, Fill, And, Or, Back}
-use Rattle.frames.specs.Frames.{Frame, Frames, none, _▷_, count, total, newest, walk, got, Built, done, deep, fresh, filled, written}
+use Rattle.lang.specs.declared.instruction.Instruction.the-variants.{Fill, And, Or}
+use Rattle.frames.specs.Frames.{Frame, Frames, _▷_, count, got, Built, deep, fresh, filled}
 use Rattle.meaning.specs.Tree.{Place, Sign, minus, negate, Operator, add, sub, mul, equal, less, Expr, number, truth, read, signed, binary, both, either, choose, local, apply, Args, no-args, arg, args, Parameter}
 use Rattle.meaning.specs.Limits.{mostSteps, mostNested, mostReturns}
 use Rattle.meaning.specs.Scopes.{Scope, constant, function, Use, find, hopsOf, offsetOf, params}
 use Rattle.meaning.specs.Violations.{wrong, valueUse, asValue, functionUse, asFunction, framed, wrongE, wrongA}
 use Rattle.meaning.specs.Operators.{Worked, worked, conjoined, disjoined, withSign}
-use Rattle.meaning.specs.Translation.{Code, line, signCode, operatorCode, codeE, codeA}
-use Rattle.meaning.specs.Machine.{Machine, Next, go, stop, stuck, onFrames, pushed, loadedValue, loaded, gives, onOne, onTwo, answered, moved, calledAt, called, act}
-use Rattle.meaning.specs.Meaning.{Answer, ok, Run, bind, _>>=_, _>>_, give, tick, settle, Meant, a-value, a-location, a-function, a-procedure, Bound, Env, Store, valueAt, lookup, Room, waits, inside, opens, valueOf, given, Calls, entersE, evalE, evalA, calls}
-use Rattle.meaning.specs.Uses.{Uses, none as no-use, use-of, usesE, usesA}
+use Rattle.meaning.specs.Translation.{line, signCode, operatorCode, codeE, codeA}
+use Rattle.meaning.specs.Machine.{Machine, go, stuck, onFrames, pushed, loadedValue, loaded, gives, onOne, onTwo, answered, moved, calledAt, called, act}
+use Rattle.meaning.specs.Meaning.{Answer, ok, Run, bind, _>>=_, _>>_, tick, settle, Meant, a-value, a-location, a-function, a-procedure, Env, Store, valueAt, lookup, Room, waits, opens, valueOf, given, Calls, entersE, evalE, evalA, calls}
+use Rattle.meaning.specs.Uses.{none as no-use, usesE, usesA}
 use Rattle.meaning.specs.Pairs.{sortOf, names, scopeOf}
-use Rattle.meaning.proofs.Basics.{to-true, from-true, ltb-true, none-some, cons-nil, nil-left, nil-right, append-nil, reverse-snoc, length-snoc, value-slot}
-use Rattle.meaning.proofs.Shades.{Cell, blank, fixed, located, entry, show, Shade, Shades, empty, _▸_, shade, height, slots, last, down, out, cellAt, shown, height-shown, slots-shown, last-shown, out-shown, got-shown, whole, out-part, down-last, written-last}
+use Rattle.meaning.proofs.Basics.{from-true, ltb-true, cons-nil, nil-left, nil-right, append-nil, reverse-snoc, length-snoc, value-slot}
+use Rattle.meaning.proofs.Shades.{Cell, blank, fixed, show, Shade, Shades, _▸_, shade, height, slots, last, down, out, shown, height-shown, slots-shown, last-shown, out-shown, got-shown, whole, out-part, down-last, written-last}
 use Rattle.meaning.proofs.Pieces.{Text, At, at-tail, at-end, at-length, splitE, splitA}
 use Rattle.meaning.proofs.Meets.{mach, Visible, Meets, now, After, went, halted, meets-bind, meets-map, meets-at, after-is, meets-line, meets-use, after-faults, after-branch, after-grown, after-entered}
 use Rattle.meaning.proofs.Chains.{roomOf, Fits, Matches, Chain, Seen, seen, chain-stand, chain-deep, last-of}

@@ -1,17 +1,17 @@
 -- The refusal is in the list of violations, and none is earlier.
-use Prim.Native.Nat.{ℕ, zero, suc, _+_, _≤_, _<_}
+use Prim.Native.Nat.{ℕ, zero, suc, _≤_, _<_}
 use native.Mathlib.Omega.{arith}
 use mathlib.Core.Path.{_≡_, refl, sym, _∙_, ap, subst}
 use mathlib.Core.Logic.{_⊎_, inl, inr}
 use mathlib.Core.Bool.{Bool, true, false, not, cond, _||_, _&&_}
-use mathlib.Core.List.{List, [], _∷_, _++_}
-use lib.Dec.{T, eqb, ltb, eqb→eq, ltb→lt, nltb→le, eqb-refl}
+use mathlib.Core.List.{List, [], _∷_}
+use lib.Dec.{T, eqb, ltb, eqb→eq, ltb→lt, nltb→le}
 use Rattle.std.specs.Finite.{nth}
 use Rattle.std.specs.declared.option.Option.{Option}
 use Rattle.std.specs.declared.option.Option.the-variants.{Some, None}
 use Rattle.lang.specs.declared.refusal.Refused.{Refused}
 use Rattle.lang.specs.Refusals.{number}
-use Rattle.meaning.specs.Violations.{violations, earlier, lesser, least, Decided, Refusal-is-least}
+use Rattle.meaning.specs.Violations.{violations, earlier, least, Decided, Refusal-is-least}
 use Rattle.meaning.proofs.Basics.{some-is, none-some, from-true, not-both, eqb-same}
 
 abbrev NotLater : Refused → Refused → Type 0

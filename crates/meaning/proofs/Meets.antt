@@ -1,16 +1,12 @@
 -- When the machine, from a state, does what a part of the named meaning answers.
-use Prim.Native.Nat.{ℕ, zero, suc, _+_, _-_, _≤_, _<_}
-use native.Mathlib.Omega.{arith}
-use mathlib.Core.Path.{_≡_, refl, sym, _∙_, ap, ap₂, subst, subst₂}
+use Prim.Native.Nat.{ℕ, _+_, _<_}
+use mathlib.Core.Path.{_≡_, refl, sym, _∙_, ap, subst, subst₂}
 use mathlib.Core.Bool.{Bool, true, false, not, cond}
-use mathlib.Core.List.{List, [], _∷_, _++_}
+use mathlib.Core.List.{List, _∷_}
 use lib.Dec.{T, ltb, leb, ltb→lt, nleb→lt}
-use lib.ListN.{length, replicate}
 use Rattle.std.specs.Finite.{nth}
 use Rattle.std.specs.declared.option.Option.{Option}
 use Rattle.std.specs.declared.option.Option.the-variants.{Some, None}
-use Rattle.std.specs.declared.result.Result.{Result}
-use Rattle.std.specs.declared.result.Result.the-variants.{Ok, Err}
 use Rattle.lang.specs.declared.name.Name.{Name}
 use Rattle.lang.specs.declared.value.Value.{Value}
 use Rattle.lang.specs.declared.value.Value.the-variants.{Number, Truth}
@@ -18,13 +14,12 @@ use Rattle.lang.specs.declared.fault.Fault.{Fault}
 use Rattle.lang.specs.declared.fault.Fault.the-variants as fault
 use Rattle.lang.specs.declared.refusal.Refusal.the-variants.{TooManyFrames, TooManySlots, ChainTooDeep}
 use Rattle.lang.specs.declared.instruction.Instruction.{Instruction}
-use Rattle.frames.specs.Frames.{Frame, Frames, none, _▷_, count, total, newest, walk, Built, refused, done, deep, fresh, grown, opened, enteredFrom, entered}
+use Rattle.frames.specs.Frames.{Frame, Frames, _▷_, count, total, newest, walk, refused, done, deep, fresh, grown, enteredFrom, entered}
 use Rattle.meaning.specs.Tree.{Place}
 use Rattle.meaning.specs.Limits.{mostSteps, mostFrames, mostSlots}
 use Rattle.meaning.specs.Scopes.{Scope, Use, find}
-use Rattle.meaning.specs.Operators.{Worked}
-use Rattle.meaning.specs.Machine.{Machine, Next, go, stop, ended, stuck, failed, on, gives, branched, answered, act, fetched, step}
-use Rattle.meaning.specs.Meaning.{Answer, ok, fault as faulted, Run, bind, tick, faults, settle, isTrue, Env, Store, Room, opens}
+use Rattle.meaning.specs.Machine.{Machine, Next, go, stop, branched, answered, act, fetched, step}
+use Rattle.meaning.specs.Meaning.{Answer, ok, fault as faulted, Run, bind, tick, faults, isTrue, Env, Store, Room, opens}
 use Rattle.meaning.specs.Uses.{Uses}
 use Rattle.meaning.specs.Pairs.{scopeOf, Stand}
 use Rattle.meaning.proofs.Basics.{not-both, from-true}

@@ -1,20 +1,19 @@
 -- Where frames stand for an environment, the pairs of names lead to what the names stand for.
-use Prim.Native.Nat.{ℕ, zero, suc, _+_}
+use Prim.Native.Nat.{ℕ}
 use mathlib.Core.Path.{_≡_, refl, sym, _∙_, ap, subst}
 use mathlib.Core.Bool.{Bool, true, false, cond}
-use mathlib.Core.List.{List, [], _∷_, _++_}
+use mathlib.Core.List.{List, [], _∷_}
 use Rattle.std.specs.Finite.{nth}
 use Rattle.std.specs.declared.option.Option.{Option}
 use Rattle.std.specs.declared.option.Option.the-variants.{Some, None}
-use Rattle.std.specs.declared.result.Result.the-variants.{Ok}
 use Rattle.lang.specs.declared.name.Name.{Name}
 use Rattle.lang.specs.declared.value.Slot.{Slot}
 use Rattle.lang.specs.Names.{same}
-use Rattle.frames.specs.Frames.{Frame, Frames, none, _▷_, upTo, walk, asked, got}
-use Rattle.meaning.specs.Scopes.{Scope, Use, further, outward, among, orOutward, find}
+use Rattle.frames.specs.Frames.{Frames, none, _▷_, upTo, walk, asked, got}
+use Rattle.meaning.specs.Scopes.{Scope, Use, further, among, orOutward, find}
 use Rattle.meaning.specs.Translation.{Code}
 use Rattle.meaning.specs.Meaning.{Meant, Bound, Env, Store, here, orOut, lookup}
-use Rattle.meaning.specs.Pairs.{sortOf, names, scopeOf, Holds, HoldAll, Stand, Agree, Agrees, Pairs-lead}
+use Rattle.meaning.specs.Pairs.{sortOf, names, scopeOf, Holds, HoldAll, Stand, Agrees, Pairs-lead}
 
 module _ (code : Code) (st : Store) where
 

@@ -1,18 +1,18 @@
 -- Pieces of code, each with its uses, in the code of a rule.
-use Prim.Native.Nat.{ℕ, zero, suc, _+_, _-_, _≤_, _<_}
+use Prim.Native.Nat.{ℕ, zero, suc, _+_}
 use native.Mathlib.Omega.{arith}
-use mathlib.Core.Path.{_≡_, refl, sym, _∙_, ap, ap₂, subst}
-use mathlib.Core.List.{List, [], _∷_, _++_}
+use mathlib.Core.Path.{_≡_, refl, sym, _∙_, ap, subst}
+use mathlib.Core.List.{[], _∷_, _++_}
 use lib.ListN.{length, length-append}
 use Rattle.std.specs.Finite.{nth}
 use Rattle.std.specs.declared.option.Option.{Option}
-use Rattle.std.specs.declared.option.Option.the-variants.{Some, None}
+use Rattle.std.specs.declared.option.Option.the-variants.{Some}
 use Rattle.lang.specs.declared.name.Name.{Name}
 use Rattle.lang.specs.declared.instruction.Instruction.{Instruction}
 use Rattle.meaning.specs.Tree.{Place, Expr, number, truth, read, signed, binary, both, either, choose, local, apply, Args, no-args, arg, Data, no-data, const, var, Command, block, assign, perform, fork, while, Commands, no-commands, then, Routines, no-routines, fun, proc, data-slots}
 use Rattle.meaning.specs.Scopes.{Scope, constant, params, dataNames, blockNames}
 use Rattle.meaning.specs.Translation.{Code, codeE, codeA, codeD, codeC, codeS, codeR}
-use Rattle.meaning.specs.Uses.{Uses, none, usesE, usesA, usesD, usesC, usesS, usesR}
+use Rattle.meaning.specs.Uses.{Uses, usesE, usesA, usesD, usesC, usesS, usesR}
 use Rattle.meaning.specs.Pairs.{StandsAt}
 use Rattle.meaning.proofs.Basics.{same-append, append-nil, append-assoc, nth-seam, none-some}
 

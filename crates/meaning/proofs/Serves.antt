@@ -1,7 +1,7 @@
 -- An instruction that the frame memory refuses by anything but 23 and 24 is stuck, and no run is.
-use Prim.Native.Nat.{ℕ, zero, suc, _+_, _≤_, _<_}
+use Prim.Native.Nat.{ℕ, _+_}
 use mathlib.Core.Path.{_≡_, refl, sym, _∙_, ap, subst}
-use mathlib.Core.Logic.{_⊎_, inl, inr}
+use mathlib.Core.Logic.{inl, inr}
 use mathlib.Core.Bool.{Bool, true, false, cond}
 use mathlib.Core.List.{List, [], _∷_}
 use lib.Dec.{ltb}
@@ -14,17 +14,17 @@ use Rattle.std.specs.declared.result.Result.the-variants.{Ok, Err}
 use Rattle.lang.specs.declared.value.Value.{Value}
 use Rattle.lang.specs.declared.value.Slot.{Slot}
 use Rattle.lang.specs.declared.value.Slot.the-variants as slot
-use Rattle.lang.specs.Values.{slotOf, valueIn}
+use Rattle.lang.specs.Values.{slotOf}
 use Rattle.lang.specs.declared.fault.Fault.the-variants as fault
 use Rattle.lang.specs.declared.refusal.Refusal.{Refusal}
 use Rattle.lang.specs.declared.refusal.Refusal.the-variants.{ShortMemory, BadSheet, TextTooLong, BadByte, NameTooLong, NumberTooLarge, Unexpected, NestTooDeep, TooManyNodes, NotVisible, NameTwice, WrongSort, WrongCount, ScopesTooDeep, TooManyNames, RunOpen, NoRule, NoRun, BadEntry, TooManyFrames, TooManySlots, ChainTooDeep, NoSuchSlot}
 use Rattle.lang.specs.declared.instruction.Instruction.{Instruction}
 use Rattle.lang.specs.declared.instruction.Instruction.the-variants.{Push, Load, Minus, Not, Add, Sub, Mul, Equal, Less, And, Or, Pick, Fork, Skip, Leave, Again, Open, Fill, Shut, Fun, Proc, Call, Do, Back, Store, Let}
-use Rattle.frames.specs.Frames.{Frames, none, _▷_, count, walk, asked, lastSlot, got, Built, refused, done, opened, entered, left, filledIn, writtenFrom, written}
+use Rattle.frames.specs.Frames.{Frames, none, _▷_, count, walk, asked, lastSlot, got, refused, done, opened, entered, left, filledIn, writtenFrom, written}
 use Rattle.meaning.specs.Tree.{Place}
 use Rattle.meaning.specs.Limits.{mostSteps}
 use Rattle.meaning.specs.Translation.{Code, translated}
-use Rattle.meaning.specs.Machine.{Machine, Next, go, stop, ended, stuck, failed, loaded, faultOf, refusedBy, answered, filling, storedOver, storedIn, storing, called, returned, act, counted, fetched, step, after, goes}
+use Rattle.meaning.specs.Machine.{Machine, Next, stuck, failed, loaded, faultOf, refusedBy, answered, filling, storedIn, storing, called, returned, act, counted, fetched, step, after, goes}
 use Rattle.meaning.specs.Runs.{start}
 use Rattle.meaning.specs.Agreement.{looking, asks, Serves, ServesAll, Frames-serve}
 use Rattle.meaning.proofs.Basics.{ltb-true, nth-below}

@@ -1,22 +1,21 @@
 -- Shades of frames: for each slot what it is to the named meaning. With a store they show frames.
 use Prim.Native.Nat.{ℕ, zero, suc, _+_, _≤_, _<_}
 use native.Mathlib.Omega.{arith}
-use mathlib.Core.Path.{_≡_, refl, sym, _∙_, ap, ap₂, subst}
+use mathlib.Core.Path.{_≡_, refl, _∙_, ap, ap₂}
 use mathlib.Core.Bool.{Bool, true, false, cond}
-use mathlib.Core.List.{List, [], _∷_, _++_, map}
-use lib.Dec.{eqb, ltb}
-use lib.ListN.{length, length-map, set, replicate}
+use mathlib.Core.List.{List, map}
+use lib.Dec.{eqb}
+use lib.ListN.{length, length-map}
 use Rattle.std.specs.Finite.{nth}
 use Rattle.std.specs.declared.option.Option.{Option}
 use Rattle.std.specs.declared.option.Option.the-variants.{Some, None}
-use Rattle.std.specs.declared.result.Result.{Result}
-use Rattle.std.specs.declared.result.Result.the-variants.{Ok, Err}
+use Rattle.std.specs.declared.result.Result.the-variants.{Ok}
 use Rattle.lang.specs.declared.value.Value.{Value}
 use Rattle.lang.specs.declared.value.Slot.{Slot}
 use Rattle.lang.specs.declared.value.Slot.the-variants as slot
 use Rattle.lang.specs.declared.refusal.Refusal.{Refusal}
 use Rattle.lang.specs.Values.{slotOf}
-use Rattle.frames.specs.Frames.{Frame, Frames, none, _▷_, count, total, newest, upTo, walk, asked, lastSlot, got, Built, refused, done, stands, deep, filled, filledIn, writtenFrom, written}
+use Rattle.frames.specs.Frames.{Frame, Frames, none, _▷_, count, total, newest, upTo, walk, asked, lastSlot, got, refused, done, filled, filledIn, written}
 use Rattle.meaning.specs.Meaning.{Store, valueAt}
 use Rattle.meaning.proofs.Basics.{eqb-same, eqb-less, ltb-true, none-some, mapO, nth-map}
 

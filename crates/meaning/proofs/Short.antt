@@ -1,7 +1,7 @@
 -- At most three instructions a node.
-use Prim.Native.Nat.{ℕ, zero, suc, _+_, _*_, _≤_, _<_}
+use Prim.Native.Nat.{ℕ, _*_, _≤_}
 use native.Mathlib.Omega.{arith}
-use mathlib.Core.List.{List, [], _∷_, _++_}
+use mathlib.Core.List.{[], _∷_}
 use lib.ListN.{length, length-append}
 use Rattle.meaning.specs.Tree.{Expr, number, truth, read, signed, binary, both, either, choose, local, apply, Args, no-args, arg, Data, no-data, const, var, data-slots, Command, block, assign, perform, fork, while, Commands, no-commands, then, Routines, no-routines, fun, proc, nodesE, nodesA, nodesD, nodesC, nodesS, nodesR}
 use Rattle.meaning.specs.Scopes.{Scope, constant, params, dataNames, blockNames, sheetScope}

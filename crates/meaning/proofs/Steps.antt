@@ -1,11 +1,11 @@
 -- Every step counts one and keeps the machine within its memory.
-use Prim.Native.Nat.{ℕ, zero, suc, _+_, _-_, _≤_, _<_}
+use Prim.Native.Nat.{ℕ, zero, suc, _+_, _≤_, _<_}
 use native.Mathlib.Omega.{arith}
-use mathlib.Core.Path.{_≡_, refl, sym, _∙_, ap, subst}
+use mathlib.Core.Path.{_≡_, refl, sym, ap, subst}
 use mathlib.Core.Bool.{Bool, true, false, not, cond}
-use mathlib.Core.List.{List, [], _∷_, _++_}
+use mathlib.Core.List.{List, [], _∷_}
 use lib.Dec.{T, leb, ltb, eqb, nleb→lt, nltb→le, ltb→lt}
-use lib.ListN.{length, set, replicate, length-set, length-replicate}
+use lib.ListN.{length, length-set, length-replicate}
 use lib.IntN.{ℤ, _+ℤ_, _-ℤ_, _*ℤ_, negℤ}
 use Rattle.std.specs.Finite.{nth}
 use Rattle.std.specs.declared.option.Option.{Option}
@@ -23,12 +23,12 @@ use Rattle.lang.specs.declared.refusal.Refusal.{Refusal}
 use Rattle.lang.specs.declared.refusal.Refusal.the-variants.{ShortMemory, BadSheet, TextTooLong, BadByte, NameTooLong, NumberTooLarge, Unexpected, NestTooDeep, TooManyNodes, NotVisible, NameTwice, WrongSort, WrongCount, ScopesTooDeep, TooManyNames, RunOpen, NoRule, NoRun, BadEntry, TooManyFrames, TooManySlots, ChainTooDeep, NoSuchSlot}
 use Rattle.lang.specs.declared.instruction.Instruction.{Instruction}
 use Rattle.lang.specs.declared.instruction.Instruction.the-variants.{Push, Load, Minus, Not, Add, Sub, Mul, Equal, Less, And, Or, Pick, Fork, Skip, Leave, Again, Open, Fill, Shut, Fun, Proc, Call, Do, Back, Store, Let}
-use Rattle.frames.specs.Frames.{Frame, Frames, none, _▷_, count, total, newest, walk, got, Built, refused, done, deep, fresh, grown, opened, enteredFrom, entered, left, filled, filledIn, writtenFrom, written}
+use Rattle.frames.specs.Frames.{Frames, none, _▷_, count, total, newest, walk, got, Built, refused, done, deep, fresh, grown, opened, enteredFrom, entered, left, filled, filledIn, writtenFrom, written}
 use Rattle.meaning.specs.Tree.{Place, Sign, minus, negate, Operator, add, sub, mul, equal, less}
 use Rattle.meaning.specs.Limits.{mostSteps, mostFrames, mostSlots, mostValues, mostReturns}
 use Rattle.meaning.specs.Operators.{Worked, fits, ranged, worked, conjoined, disjoined, withSign, alike}
 use Rattle.meaning.specs.Translation.{Code}
-use Rattle.meaning.specs.Machine.{Machine, Next, go, stop, ended, stuck, failed, on, onFrames, pushed, loadedValue, loaded, gives, onOne, onTwo, branched, faultOf, refusedBy, answered, built, filling, storedOver, storedIn, storing, moved, calledAt, called, returned, act, counted, fetched, step, after, goes}
+use Rattle.meaning.specs.Machine.{Machine, Next, go, stop, ended, stuck, failed, on, pushed, loadedValue, loaded, gives, onOne, onTwo, branched, faultOf, refusedBy, answered, built, filling, storedOver, storedIn, storing, moved, calledAt, called, returned, act, counted, fetched, step, after}
 use Rattle.meaning.specs.Agreement.{faultAt, Shallow, Within}
 use Rattle.meaning.proofs.Depth.{Older, whole, walk-older, grown-shallow, filled-count, filled-shallow}
 

@@ -2,21 +2,20 @@
 use Prim.Native.Nat.{ℕ, zero, suc, _+_, _≤_, _<_}
 use native.Mathlib.Omega.{arith}
 use native.Mathlib.Nat.{zero-add}
-use mathlib.Core.Path.{_≡_, refl, sym, _∙_, ap, ap₂, subst}
+use mathlib.Core.Path.{_≡_, refl, sym, _∙_, ap, ap₂}
 use mathlib.Core.Bool.{Bool, true, false, cond}
 use mathlib.Core.List.{List, [], _∷_, _++_, map}
-use lib.Dec.{T, eqb, eqb→eq, ltb}
-use lib.ListN.{length, getD, set, replicate, length-set, length-append, length-map, List·getD-append}
+use lib.Dec.{eqb, eqb→eq}
+use lib.ListN.{length, set, replicate, length-set, length-append, length-map, List·getD-append}
 use lib.Seq.{getD-set-same, getD-set-other}
 use Rattle.std.specs.Finite.{nth}
 use Rattle.std.specs.declared.option.Option.{Option}
-use Rattle.std.specs.declared.option.Option.the-variants.{Some, None}
+use Rattle.std.specs.declared.option.Option.the-variants.{Some}
 use Rattle.lang.specs.declared.value.Value.{Value}
-use Rattle.lang.specs.declared.value.Value.the-variants.{Number}
 use Rattle.lang.specs.declared.value.Slot.{Slot}
 use Rattle.lang.specs.declared.refusal.Refusal.the-variants.{NoSuchSlot}
 use Rattle.lang.specs.Values.{slotOf}
-use Rattle.frames.specs.Frames.{Frame, Frames, none, _▷_, count, Built, refused, done, filled, filledIn, writtenFrom, written}
+use Rattle.frames.specs.Frames.{Frames, _▷_, count, refused, done, filledIn, writtenFrom, written}
 use Rattle.meaning.specs.Meaning.{Store, valueAt}
 use Rattle.meaning.proofs.Basics.{eqb-same, eqb-less, ltb-true, from-true, none-some, some-is, nth-below}
 use Rattle.meaning.proofs.Shades.{Cell, blank, fixed, located, entry, show, Shade, Shades, empty, _▸_, shade, height, out, cellAt, shown, height-shown, out-shown, Part, whole, deeper, nothing, part-height, out-part}

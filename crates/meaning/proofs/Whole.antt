@@ -4,8 +4,7 @@ use native.Mathlib.Omega.{arith}
 use native.Mathlib.Nat.{zero-add, suc-add, add-zero}
 use mathlib.Core.Path.{_≡_, refl, sym, _∙_, ap, ap₂, subst, subst₂}
 use mathlib.Core.Bool.{Bool, true, false, cond}
-use mathlib.Core.Logic.{_⊎_, inl, inr}
-use mathlib.Core.List.{List, [], _∷_, _++_, map}
+use mathlib.Core.List.{List, [], _∷_, map}
 use lib.Dec.{T, eqb, eqb→eq, leb, leb→le, nleb→lt}
 use lib.ListN.{length, length-map}
 use Rattle.std.specs.Finite.{nth}
@@ -15,7 +14,6 @@ use Rattle.lang.specs.declared.name.Name.{Name}
 use Rattle.lang.specs.declared.value.Value.{Value}
 use Rattle.lang.specs.declared.value.Slot.{Slot}
 use Rattle.lang.specs.Values.{slotOf}
-use Rattle.lang.specs.declared.fault.Fault.{Fault}
 use Rattle.lang.specs.declared.sheet.Mark.{Mark}
 use Rattle.lang.specs.declared.sheet.Mark.the-variants.{Given, Kept as KeptMark}
 use Rattle.lang.specs.declared.sheet.Entry.{Entry}
@@ -29,15 +27,15 @@ use Rattle.meaning.specs.Translation.{Code, codeC, translated}
 use Rattle.meaning.specs.Machine.{Machine, Next, go, stop, ended, stuck, fetched, step, after, goes}
 use Rattle.meaning.specs.Meaning.{Answer, ok, fault, Meant, a-value, a-location, Bound, Env, Store, valueAt, lookup, Room, runs}
 use Rattle.meaning.specs.Runs.{sheetBound, sheetStore, entry as entryWith, entriesAfter, Outcome, done, faulty, Ending, ending, ran, meaning, sheetFrames, start}
-use Rattle.meaning.specs.Uses.{Uses, usesC, used}
-use Rattle.meaning.specs.Pairs.{sortOf, names, scopeOf, Stand, Agrees}
+use Rattle.meaning.specs.Uses.{usesC, used}
+use Rattle.meaning.specs.Pairs.{names, scopeOf, Stand, Agrees}
 use Rattle.meaning.specs.Agreement.{faultAt, endAt, answer, finished, Leaves, Runs-as, Code-means, Never-stuck, Runs-cut, Runs-end, Within, Memory-suffices, Leads, Pair-law}
 use Rattle.meaning.proofs.Basics.{nth-past, from-true, some-is, none-some}
-use Rattle.meaning.proofs.Shades.{Cell, fixed, located, show, Shade, Shades, empty, _▸_, shade, shown}
+use Rattle.meaning.proofs.Shades.{Cell, fixed, located, show, Shades, empty, _▸_, shade, shown}
 use Rattle.meaning.proofs.Pieces.{Text, At, at-start, lengthC}
 use Rattle.meaning.proofs.Meets.{mach, Visible, Kept, Keeps, Meets, now, stops, more}
-use Rattle.meaning.proofs.Chains.{roomOf, Matches, Chain}
-use Rattle.meaning.proofs.Stores.{one, occ, Sound, not-one}
+use Rattle.meaning.proofs.Chains.{roomOf, Matches}
+use Rattle.meaning.proofs.Stores.{occ, Sound, not-one}
 use Rattle.meaning.proofs.Commands.{LandsC, landsC, runs-right}
 use Rattle.meaning.proofs.Pairing.{leads}
 use Rattle.meaning.proofs.Besides.{Beside1, besideC, beside-at}

@@ -10,7 +10,6 @@ use Rattle.std.specs.declared.option.Option.{Option}
 use Rattle.std.specs.declared.option.Option.the-variants.{Some, None}
 use Rattle.lang.specs.declared.name.Name.{Name}
 use Rattle.lang.specs.Names.{padded}
-use Rattle.lang.specs.declared.value.Value.{Value}
 use Rattle.lang.specs.declared.value.Value.the-variants.{Number, Truth}
 use Rattle.lang.specs.declared.fault.Fault.the-variants.{Kind, Range}
 use Rattle.lang.specs.declared.refusal.Refusal.the-variants.{ScopesTooDeep}
@@ -18,7 +17,7 @@ use Rattle.lang.specs.declared.refusal.Refused.{Refused}
 use Rattle.lang.specs.declared.sheet.Mark.the-variants.{Given, Kept}
 use Rattle.lang.specs.declared.sheet.Entry.{Entry}
 use Rattle.lang.specs.declared.instruction.Instruction.the-variants.{Load}
-use Rattle.meaning.specs.Tree.{Place, add, sub, mul, equal, less, Expr, number, truth, read, binary, both, choose, local, no-args, Parameter, no-data, const, var, Command, block, assign, perform, no-commands, then, no-routines, proc}
+use Rattle.meaning.specs.Tree.{Place, add, sub, mul, equal, less, number, truth, read, binary, both, choose, local, no-args, no-data, const, var, Command, block, assign, perform, no-commands, then, no-routines, proc}
 use Rattle.meaning.specs.Violations.{refusal}
 use Rattle.meaning.specs.Translation.{translated, instructions}
 use Rattle.meaning.specs.Runs.{Outcome, done, faulty, Ending, meaning}
