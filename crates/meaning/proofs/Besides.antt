@@ -42,6 +42,7 @@ operator-plain less = refl
 
 mutual
   unfolding codeE usesE
+
   besideE : (e : Expr) (g : Scope) → Beside (codeE g e) (usesE g e)
   besideE (number p n) g = plain refl
   besideE (truth p b) g = plain refl
@@ -53,6 +54,7 @@ mutual
   besideE (choose p c e f) g = join (besideE c g) (more refl (join (besideE e g) (more refl (besideE f g))))
   besideE (local p q x e f) g = more refl (join (besideE e ([] ∷ g)) (more refl (join (besideE f (((x, constant) ∷ []) ∷ g)) (plain refl))))
   besideE (apply p x es) g = join (besideA es g) (more refl none)
+
   besideA : (es : Args) (g : Scope) → Beside (codeA g es) (usesA g es)
   besideA no-args g = none
   besideA (arg es e) g = join (besideA es g) (besideE e g)
@@ -65,15 +67,18 @@ besideD (var ds p q x e) g = join (besideD ds g) (join (besideE e (dataNames ds 
 
 mutual
   unfolding codeC usesC
+
   pub besideC : (c : Command) (g : Scope) → Beside (codeC g c) (usesC g c)
   besideC (block p ds rs cs) g = more refl (join (besideD ds g) (join (besideR rs (blockNames ds rs ∷ g) (data-slots ds)) (join (besideS cs (blockNames ds rs ∷ g)) (plain refl))))
   besideC (assign p x e) g = join (besideE e g) (more refl none)
   besideC (perform p q x es) g = join (besideA es g) (more refl none)
   besideC (fork p e c d) g = join (besideE e g) (more refl (join (besideC c g) (more refl (besideC d g))))
   besideC (while p e c) g = join (besideE e g) (more refl (join (besideC c g) (plain refl)))
+
   besideS : (cs : Commands) (g : Scope) → Beside (codeS g cs) (usesS g cs)
   besideS no-commands g = none
   besideS (then cs c) g = join (besideS cs g) (besideC c g)
+
   besideR : (rs : Routines) (g : Scope) (n : ℕ) → Beside (codeR n g rs) (usesR g rs)
   besideR no-routines g n = none
   besideR (fun rs p q x ps e) g n = join (besideR rs g n) (more refl (join (besideE e (params ps ∷ g)) (plain refl)))

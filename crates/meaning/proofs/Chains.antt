@@ -32,7 +32,6 @@ scope-length [] = refl
 scope-length (bs ∷ env) = ap suc (scope-length env)
 
 module _ (t : Text) where
-
   -- the cell of what a name found in the scope g stands for; a routine's body stands in the code, and has no violations
   abbrev pub Fits : Scope → Meant → Cell → Type 0
   Fits g (a-value v) c = c ≡ fixed v

@@ -92,11 +92,12 @@ upTo-filled (Some j) k o v none = refl
 upTo-filled (Some j) k o v (fs ▷ f) = by (eqb k (count fs)) refl (upTo-filled (Some j) k o v fs)
   where
     here : (b c : Bool) → eqb k (count fs) ≡ b → upTo (Some j) (filledIn k o v fs) ≡ filledIn k o v (upTo (Some j) fs)
-      → cond c (cond b (fs ▷ filled f o v) (filledIn k o v fs ▷ f)) (cond b (upTo (Some j) fs) (upTo (Some j) (filledIn k o v fs))) ≡ filledIn k o v (cond c (fs ▷ f) (upTo (Some j) fs))
+        → cond c (cond b (fs ▷ filled f o v) (filledIn k o v fs ▷ f)) (cond b (upTo (Some j) fs) (upTo (Some j) (filledIn k o v fs))) ≡ filledIn k o v (cond c (fs ▷ f) (upTo (Some j) fs))
     here true true e r = sym (ap (λ (b : Bool). cond b (fs ▷ filled f o v) (filledIn k o v fs ▷ f)) e)
     here true false e r = sym (filled-past k o v (upTo (Some j) fs) (let x = older-count (upTo-older (Some j) fs) in let y = eqb→eq k (count fs) (from-true _ e) in omega arith))
     here false true e r = sym (ap (λ (b : Bool). cond b (fs ▷ filled f o v) (filledIn k o v fs ▷ f)) e)
     here false false e r = r
+
     by : (b : Bool) → eqb k (count fs) ≡ b → upTo (Some j) (filledIn k o v fs) ≡ filledIn k o v (upTo (Some j) fs) → upTo (Some j) (cond b (fs ▷ filled f o v) (filledIn k o v fs ▷ f)) ≡ filledIn k o v (cond (eqb j (count fs)) (fs ▷ f) (upTo (Some j) fs))
     by true e r = here true (eqb j (count fs)) e r
     by false e r = ap (λ (n : ℕ). cond (eqb j n) (filledIn k o v fs ▷ f) (upTo (Some j) (filledIn k o v fs))) (filled-count k o v fs) ∙ here false (eqb j (count fs)) e r

@@ -75,12 +75,15 @@ found r (v ∷ vs) = by (earlier v r) refl (found v vs) (found r vs)
     each : (x : Refused) → NotLater x v → ((i : ℕ) (u : Refused) → nth vs i ≡ Some u → NotLater x u) → (i : ℕ) (u : Refused) → nth (v ∷ vs) i ≡ Some u → NotLater x u
     each x l h zero u e = subst (NotLater x) (some-is e) l
     each x l h (suc i) u e = h i u e
+
     with-head : (x : Refused) → (x ≡ v) ⊎ ((i : ℕ) × (nth vs i ≡ Some x)) → (i : ℕ) × (nth (v ∷ vs) i ≡ Some x)
     with-head x (inl e) = (0, ap {B = Option Refused} Some (sym e))
     with-head x (inr h) = (suc (h .0), h .1)
+
     without : (x : Refused) → (x ≡ r) ⊎ ((i : ℕ) × (nth vs i ≡ Some x)) → (x ≡ r) ⊎ ((i : ℕ) × (nth (v ∷ vs) i ≡ Some x))
     without x (inl e) = inl e
     without x (inr h) = inr (suc (h .0), h .1)
+
     by : (b : Bool) → earlier v r ≡ b → Found v vs → Found r vs → Found r (v ∷ vs)
     by true e f g = record { one = f .one; is = ap (λ (b : Bool). least (cond b (Some v) (Some r)) vs) e ∙ f .is; not-later = not-later-trans (f .one) v r (f .not-later) (earlier-not-later v r e); first = each (f .one) (f .not-later) (f .first); among = inr (with-head (f .one) (f .among)) }
     by false e f g = record { one = g .one; is = ap (λ (b : Bool). least (cond b (Some v) (Some r)) vs) e ∙ g .is; not-later = g .not-later; first = each (g .one) (not-later-trans (g .one) r v (g .not-later) e) (g .first); among = without (g .one) (g .among) }
@@ -92,9 +95,11 @@ decided (v ∷ vs) = subst (Decided (v ∷ vs)) (sym (found v vs .is)) (by (foun
     place-of : (x : Refused) → (x ≡ v) ⊎ ((i : ℕ) × (nth vs i ≡ Some x)) → (i : ℕ) × (nth (v ∷ vs) i ≡ Some x)
     place-of x (inl e) = (0, ap {B = Option Refused} Some (sym e))
     place-of x (inr h) = (suc (h .0), h .1)
+
     each : (f : Found v vs) (i : ℕ) (u : Refused) → nth (v ∷ vs) i ≡ Some u → NotLater (f .one) u
     each f zero u e = subst (NotLater (f .one)) (some-is e) (f .not-later)
     each f (suc i) u e = f .first i u e
+
     by : (f : Found v vs) → Decided (v ∷ vs) (Some (f .one))
     by f = record { at = place-of (f .one) (f .among) .0; is = place-of (f .one) (f .among) .1; first = each f }
 

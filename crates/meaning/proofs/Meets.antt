@@ -39,7 +39,6 @@ Kept t (Some None) fs = Unit {0}
 Kept t (Some (Some u)) fs = (env : Env) × (st : Store) × (scopeOf env ≡ u .1) × Visible (find (u .0) (u .1)) × Stand (t .code) st env fs
 
 module _ (t : Text) where
-
   abbrev pub Keeps : Machine → Type 0
   Keeps m = Kept t (nth (t .uses) (m .at)) (m .frames)
 
@@ -80,6 +79,7 @@ module _ (t : Text) where
     where
       steps : (b : Bool) → ltb s mostSteps ≡ b → step (t .code) (mach i vs rs fs s) ≡ cond b (act c p (mach i vs rs fs (s + 1))) (stop fault.Steps p s)
       steps b l = ap (λ (o : Option (Instruction × Place)). fetched o (mach i vs rs fs s)) e ∙ ap (λ (b : Bool). cond b (act c p (mach i vs rs fs (s + 1))) (stop fault.Steps p s)) l
+
       by : (b : Bool) → ltb s mostSteps ≡ b → Meets Q (mach i vs rs fs s) (bind (cond b (ok tt (s + 1)) (faulted fault.Steps p s)) k)
       by true l = after-meets w (steps true l) (h (ltb→lt s mostSteps (from-true _ l)))
       by false l = stops w (steps false l)
@@ -111,7 +111,7 @@ module _ (t : Text) where
   -- a frame more, whose parent is the last of gs
   pub after-grown : {A : Type 0} {Q : A → ℕ → Machine → Type 0} (n : ℕ) (fs gs : Frames) (r : Room) (p s : ℕ) (m : Machine) (F : Frames → Next) (k : Unit {0} → Run A) → m .steps ≡ s → count fs ≡ r .frames → total fs ≡ r .slots → deep gs ≡ false → (count fs < mostFrames → After Q (F (fs ▷ fresh n (newest gs))) (k tt s)) → After Q (answered (grown fs gs n .answer) (F (grown fs gs n .after)) p m) (bind (opens n r p s) k)
   after-grown {A} {Q} n fs gs r p s m F k z e f d x = subst₂ (λ (a b : ℕ). After Q (answered (grown fs gs n .answer) (F (grown fs gs n .after)) p m) (bind (bind (faults (leb mostFrames a) fault.Frames p s) (λ _. faults (ltb mostSlots (b + n)) fault.Slots p)) k)) e f
-    (subst (λ (s : ℕ). (count fs < mostFrames → After Q (F (fs ▷ fresh n (newest gs))) (k tt s)) → After Q (answered (grown fs gs n .answer) (F (grown fs gs n .after)) p m) (bind (bind (faults (leb 256 (count fs)) fault.Frames p s) (λ _. faults (ltb 2048 (total fs + n)) fault.Slots p)) k)) z (by (leb 256 (count fs)) (ltb 2048 (total fs + n)) (deep gs) refl d) x)
+      (subst (λ (s : ℕ). (count fs < mostFrames → After Q (F (fs ▷ fresh n (newest gs))) (k tt s)) → After Q (answered (grown fs gs n .answer) (F (grown fs gs n .after)) p m) (bind (bind (faults (leb 256 (count fs)) fault.Frames p s) (λ _. faults (ltb 2048 (total fs + n)) fault.Slots p)) k)) z (by (leb 256 (count fs)) (ltb 2048 (total fs + n)) (deep gs) refl d) x)
     where
       by : (a b c : Bool) → leb 256 (count fs) ≡ a → c ≡ false → (count fs < mostFrames → After Q (F (fs ▷ fresh n (newest gs))) (k tt (m .steps))) → After Q (answered (cond a (refused TooManyFrames fs) (cond b (refused TooManySlots fs) (cond c (refused ChainTooDeep fs) (done (fs ▷ fresh n (newest gs))))) .answer) (F (cond a (refused TooManyFrames fs) (cond b (refused TooManySlots fs) (cond c (refused ChainTooDeep fs) (done (fs ▷ fresh n (newest gs))))) .after)) p m) (bind (bind (faults a fault.Frames p (m .steps)) (λ _. faults b fault.Slots p)) k)
       by true b c q h x = halted

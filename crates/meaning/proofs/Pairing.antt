@@ -16,7 +16,6 @@ use Rattle.meaning.specs.Meaning.{Meant, Bound, Env, Store, here, orOut, looku
 use Rattle.meaning.specs.Pairs.{sortOf, names, scopeOf, Holds, HoldAll, Stand, Agrees, Pairs-lead}
 
 module _ (code : Code) (st : Store) where
-
   -- within a frame
   abbrev LeadsIn : Scope → List Slot → Option Meant → Option Use → Type 0
   LeadsIn g ss None None = Unit {0}
@@ -48,13 +47,13 @@ module _ (code : Code) (st : Store) where
       by None None s (Some b) (Some u) k = record { sort = k .sort; frame = k .frame; slot = k .slot; read = k .read; holds = k .holds }
       by None (Some u) s q n k = absurd s
       by (Some b) None s q n k = absurd s
-      by (Some b) (Some u) s q n k = record
-        { sort = s .0
-        ; frame = subst (λ (n : ℕ). Stand code st (bs ∷ env) (walk n (fs ▷ f))) (sym (s .1)) h
-        ; slot = s .2
-        ; read = ap (λ (n : ℕ). got (fs ▷ f) n (u .offset)) (s .1) ∙ ap asked (s .3)
-        ; holds = s .4
-        }
+      by (Some b) (Some u) s q n k = record {
+        sort = s .0;
+        frame = subst (λ (n : ℕ). Stand code st (bs ∷ env) (walk n (fs ▷ f))) (sym (s .1)) h;
+        slot = s .2;
+        read = ap (λ (n : ℕ). got (fs ▷ f) n (u .offset)) (s .1) ∙ ap asked (s .3);
+        holds = s .4;
+      }
 
 pub pairs-lead : Pairs-lead
 pairs-lead code st env fs h x = leads code st x env fs h

@@ -67,6 +67,7 @@ written-answer fs h o v u = by (walk h fs)
     in-frame : (b : Bool) (k : ℕ) → cond b (done (filledIn k o v fs)) (refused NoSuchSlot fs) .answer ≡ cond b (done (filledIn k o u fs)) (refused NoSuchSlot fs) .answer
     in-frame true k = refl
     in-frame false k = refl
+
     by : (gs : Frames) → writtenFrom fs gs o v .answer ≡ writtenFrom fs gs o u .answer
     by none = refl
     by (gs ▷ g) = in-frame (ltb o (length (g .slots))) (count gs)
@@ -85,6 +86,7 @@ read-write fs h o s v e = by (walk h fs) e
     in-slots : (r : Option Slot) → asked r ≡ Ok s → (t : Slot) × (r ≡ Some t)
     in-slots None e = absurd (subst IsErr e tt)
     in-slots (Some t) e = (t, refl)
+
     by : (gs : Frames) → lastSlot gs o ≡ Ok s → Serves (writtenFrom fs gs o v .answer)
     by none e = absurd (subst IsErr e tt)
     by (gs ▷ g) e = subst (λ (b : Bool). Serves (cond b (done (filledIn (count gs) o v fs)) (refused NoSuchSlot fs) .answer)) (sym (ltb-true o (length (g .slots)) (nth-below (g .slots) o (in-slots (nth (g .slots) o) e .1)))) tt
@@ -150,7 +152,9 @@ frames-serve es c g k m i p e l at = act-serves i p (counted m) moves
   where
     code : Code
     code = translated es c
+
     acts : step (translated es c) m ≡ act i p (counted m)
     acts = ap (λ (o : Option (Instruction × Place)). fetched o m) at ∙ ap (λ (b : Bool). cond b (act i p (counted m)) (failed fault.Steps p m)) (ltb-true (m .steps) mostSteps l)
+
     moves : act i p (counted m) ≡ stuck → ⊥
     moves q = never-stuck es c g (k + 1) (runs-cut (translated es c) k 1 (start es) ∙ ap (λ (n : Next). after n (goes (translated es c) 1)) e ∙ ap (λ (n : Next). after n (goes (translated es c) 0)) (acts ∙ q))

@@ -37,7 +37,6 @@ pub record Shade : Type 0 where
   pub parent : Option ℕ
 
 infixl 20 _▸_
-
 pub data Shades : Type 0 where
   empty : Shades
   _▸_ : Shades → Shade → Shades
@@ -157,4 +156,4 @@ down-last (deeper {v = v} {w = w} {f = f} t) = by v (part-height t) (down-last t
 -- writing a slot of the last frame
 pub written-last : (fs : Frames) (f : Frame) (o : ℕ) (v : Slot) → o < length (f .slots) → written (fs ▷ f) 0 o v ≡ done (fs ▷ filled f o v)
 written-last fs f o v l = ap (λ (b : Bool). cond b (done (filledIn (count fs) o v (fs ▷ f))) (refused Refusal.NoSuchSlot (fs ▷ f))) (ltb-true o (length (f .slots)) l)
-  ∙ ap (λ (b : Bool). done (cond b (fs ▷ filled f o v) (filledIn (count fs) o v fs ▷ f))) (eqb-same (count fs))
+    ∙ ap (λ (b : Bool). done (cond b (fs ▷ filled f o v) (filledIn (count fs) o v fs ▷ f))) (eqb-same (count fs))

@@ -76,6 +76,7 @@ written-fit fs h o v x = by (walk h fs)
     in-frame : (b : Bool) (k : ℕ) → Fit (cond b (done (filledIn k o v fs)) (refused NoSuchSlot fs) .after)
     in-frame true k = let y = filled-count k o v fs in let z = filled-total k o v fs in let a = x .0 in let b = x .1 in (omega arith, omega arith, filled-shallow k o v fs (x .2))
     in-frame false k = x
+
     by : (gs : Frames) → Fit (writtenFrom fs gs o v .after)
     by none = x
     by (gs ▷ g) = in-frame (ltb o (length (g .slots))) (count gs)
@@ -214,6 +215,7 @@ did-stored (Ok s) v n p m d = by (valueIn s)
     alikes : (b : Bool) → Did m (cond b n (failed fault.Kind p m))
     alikes true = d
     alikes false = fell refl
+
     by : (o : Option Value) → Did m (storedOver o v n p m)
     by None = hung
     by (Some u) = alikes (alike u v)
@@ -297,6 +299,7 @@ step-counts code m = by (nth code (m .at))
     limited : (b : Bool) (c : Instruction) (p : Place) → ltb (m .steps) mostSteps ≡ b → Counts m (cond b (act c p (counted m)) (failed fault.Steps p m))
     limited true c p e = did-counts m (ltb→lt (m .steps) mostSteps (subst T (sym e) tt)) (did-act c p (counted m))
     limited false c p e = (refl, λ l. l)
+
     by : (o : Option (Instruction × Place)) → Counts m (fetched o m)
     by None = tt
     by (Some c) = limited (ltb (m .steps) mostSteps) (c .0) (c .1) refl

@@ -74,7 +74,8 @@ Code-means = (es : List Entry) (c : Command) → violations es c ≡ [] → Runs
 abbrev pub Never-stuck : Type 0
 Never-stuck = (es : List Entry) (c : Command) → violations es c ≡ [] → (k : ℕ) → goes (translated es c) k (start es) ≡ stuck → ⊥
 
--- What the frame memory answers to that which an instruction asks of it first. What a write answers does not depend on what is written.
+-- What the frame memory answers to what an instruction asks of it. What a write answers does not depend on what is written. The args of a call are
+-- written into the frame just entered, which has a slot for each.
 abbrev pub looking : Result Slot Refusal → Result (Unit {0}) Refusal
 looking (Ok s) = Ok tt
 looking (Err e) = Err e

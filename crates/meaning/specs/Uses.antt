@@ -32,6 +32,7 @@ unfoldable mutual
   usesE g (choose p c e f) = usesE g c ++ (None ∷ (usesE g e ++ (None ∷ usesE g f)))
   usesE g (local p q x e f) = None ∷ (usesE ([] ∷ g) e ++ (None ∷ (usesE (((x, constant) ∷ []) ∷ g) f ++ none)))
   usesE g (apply p x es) = usesA g es ++ use-of x g
+
   pub usesA : Scope → Args → Uses
   usesA g no-args = []
   usesA g (arg es e) = usesA g es ++ usesE g e
@@ -48,9 +49,11 @@ unfoldable mutual
   usesC g (perform p q x es) = usesA g es ++ use-of x g
   usesC g (fork p e c d) = usesE g e ++ (None ∷ (usesC g c ++ (None ∷ usesC g d)))
   usesC g (while p e c) = usesE g e ++ (None ∷ (usesC g c ++ none))
+
   pub usesS : Scope → Commands → Uses
   usesS g no-commands = []
   usesS g (then cs c) = usesS g cs ++ usesC g c
+
   pub usesR : Scope → Routines → Uses
   usesR g no-routines = []
   usesR g (fun rs p q x ps e) = usesR g rs ++ (None ∷ (usesE (params ps ∷ g) e ++ none))
