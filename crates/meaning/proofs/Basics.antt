@@ -1,11 +1,10 @@
 -- Small facts on lists, tests and options.
-use Prim.Native.Nat.{ℕ, zero, suc, _+_, _-_, _≤_, _<_}
+use Prim.Native.Nat.{ℕ, zero, suc, _+_, _<_}
 use native.Mathlib.Omega.{arith}
-use native.Mathlib.Nat.{zero-add, suc-add}
 use mathlib.Core.Path.{_≡_, refl, sym, _∙_, ap, ap₂, subst}
-use mathlib.Core.Bool.{Bool, true, false, cond}
+use mathlib.Core.Bool.{Bool, true, false}
 use mathlib.Core.List.{List, [], _∷_, _++_, map, reverseAux}
-use lib.Dec.{T, eqb, eqb→eq, eqb-refl, ltb, lt→ltb, ltb→lt}
+use lib.Dec.{T, eqb, eqb→eq, eqb-refl, ltb, lt→ltb}
 use lib.ListN.{length, length-append}
 use Rattle.std.specs.Finite.{nth}
 use Rattle.std.specs.declared.option.Option.{Option}

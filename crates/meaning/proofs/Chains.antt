@@ -1,5 +1,5 @@
 -- Shades that stand for an environment.
-use Prim.Native.Nat.{ℕ, zero, suc, _+_, _≤_, _<_}
+use Prim.Native.Nat.{ℕ, zero, suc, _≤_, _<_}
 use native.Mathlib.Omega.{arith}
 use mathlib.Core.Path.{_≡_, refl, sym, _∙_, ap, subst}
 use mathlib.Core.Bool.{Bool, true, false, cond}
@@ -14,14 +14,14 @@ use Rattle.lang.specs.declared.instruction.Instruction.the-variants.{Back}
 use Rattle.lang.specs.Names.{same}
 use Rattle.frames.specs.Frames.{stands, deep}
 use Rattle.meaning.specs.Limits.{mostNested}
-use Rattle.meaning.specs.Scopes.{Scope, Use, further, outward, among, orOutward, find, params}
+use Rattle.meaning.specs.Scopes.{Scope, Use, further, among, orOutward, find, params}
 use Rattle.meaning.specs.Violations.{wrongE, wrongC}
 use Rattle.meaning.specs.Translation.{line, codeE, codeC}
 use Rattle.meaning.specs.Uses.{none, usesE, usesC}
 use Rattle.meaning.specs.Meaning.{Meant, a-value, a-location, a-function, a-procedure, Bound, Env, Store, here, orOut, lookup, Room}
 use Rattle.meaning.specs.Pairs.{sortOf, names, scopeOf, Holds, HoldAll, Stand}
 use Rattle.meaning.proofs.Basics.{none-some}
-use Rattle.meaning.proofs.Shades.{Cell, blank, fixed, located, entry, show, Shade, Shades, empty, _▸_, height, slots, last, down, out, cellAt, shown, down-shown, out-shown}
+use Rattle.meaning.proofs.Shades.{Cell, fixed, located, entry, show, Shade, Shades, empty, _▸_, height, slots, down, out, cellAt, shown, down-shown, out-shown}
 use Rattle.meaning.proofs.Pieces.{Text, At, at-stands}
 
 abbrev pub roomOf : Shades → List Value → Room
@@ -32,7 +32,6 @@ scope-length [] = refl
 scope-length (bs ∷ env) = ap suc (scope-length env)
 
 module _ (t : Text) where
-
   -- the cell of what a name found in the scope g stands for; a routine's body stands in the code, and has no violations
   abbrev pub Fits : Scope → Meant → Cell → Type 0
   Fits g (a-value v) c = c ≡ fixed v

@@ -1,17 +1,17 @@
 -- The refusal is in the list of violations, and none is earlier.
-use Prim.Native.Nat.{ℕ, zero, suc, _+_, _≤_, _<_}
+use Prim.Native.Nat.{ℕ, zero, suc, _≤_, _<_}
 use native.Mathlib.Omega.{arith}
 use mathlib.Core.Path.{_≡_, refl, sym, _∙_, ap, subst}
 use mathlib.Core.Logic.{_⊎_, inl, inr}
 use mathlib.Core.Bool.{Bool, true, false, not, cond, _||_, _&&_}
-use mathlib.Core.List.{List, [], _∷_, _++_}
-use lib.Dec.{T, eqb, ltb, eqb→eq, ltb→lt, nltb→le, eqb-refl}
+use mathlib.Core.List.{List, [], _∷_}
+use lib.Dec.{T, eqb, ltb, eqb→eq, ltb→lt, nltb→le}
 use Rattle.std.specs.Finite.{nth}
 use Rattle.std.specs.declared.option.Option.{Option}
 use Rattle.std.specs.declared.option.Option.the-variants.{Some, None}
 use Rattle.lang.specs.declared.refusal.Refused.{Refused}
 use Rattle.lang.specs.Refusals.{number}
-use Rattle.meaning.specs.Violations.{violations, earlier, lesser, least, Decided, Refusal-is-least}
+use Rattle.meaning.specs.Violations.{violations, earlier, least, Decided, Refusal-is-least}
 use Rattle.meaning.proofs.Basics.{some-is, none-some, from-true, not-both, eqb-same}
 
 abbrev NotLater : Refused → Refused → Type 0
@@ -75,12 +75,15 @@ found r (v ∷ vs) = by (earlier v r) refl (found v vs) (found r vs)
     each : (x : Refused) → NotLater x v → ((i : ℕ) (u : Refused) → nth vs i ≡ Some u → NotLater x u) → (i : ℕ) (u : Refused) → nth (v ∷ vs) i ≡ Some u → NotLater x u
     each x l h zero u e = subst (NotLater x) (some-is e) l
     each x l h (suc i) u e = h i u e
+
     with-head : (x : Refused) → (x ≡ v) ⊎ ((i : ℕ) × (nth vs i ≡ Some x)) → (i : ℕ) × (nth (v ∷ vs) i ≡ Some x)
     with-head x (inl e) = (0, ap {B = Option Refused} Some (sym e))
     with-head x (inr h) = (suc (h .0), h .1)
+
     without : (x : Refused) → (x ≡ r) ⊎ ((i : ℕ) × (nth vs i ≡ Some x)) → (x ≡ r) ⊎ ((i : ℕ) × (nth (v ∷ vs) i ≡ Some x))
     without x (inl e) = inl e
     without x (inr h) = inr (suc (h .0), h .1)
+
     by : (b : Bool) → earlier v r ≡ b → Found v vs → Found r vs → Found r (v ∷ vs)
     by true e f g = record { one = f .one; is = ap (λ (b : Bool). least (cond b (Some v) (Some r)) vs) e ∙ f .is; not-later = not-later-trans (f .one) v r (f .not-later) (earlier-not-later v r e); first = each (f .one) (f .not-later) (f .first); among = inr (with-head (f .one) (f .among)) }
     by false e f g = record { one = g .one; is = ap (λ (b : Bool). least (cond b (Some v) (Some r)) vs) e ∙ g .is; not-later = g .not-later; first = each (g .one) (not-later-trans (g .one) r v (g .not-later) e) (g .first); among = without (g .one) (g .among) }
@@ -92,9 +95,11 @@ decided (v ∷ vs) = subst (Decided (v ∷ vs)) (sym (found v vs .is)) (by (foun
     place-of : (x : Refused) → (x ≡ v) ⊎ ((i : ℕ) × (nth vs i ≡ Some x)) → (i : ℕ) × (nth (v ∷ vs) i ≡ Some x)
     place-of x (inl e) = (0, ap {B = Option Refused} Some (sym e))
     place-of x (inr h) = (suc (h .0), h .1)
+
     each : (f : Found v vs) (i : ℕ) (u : Refused) → nth (v ∷ vs) i ≡ Some u → NotLater (f .one) u
     each f zero u e = subst (NotLater (f .one)) (some-is e) (f .not-later)
     each f (suc i) u e = f .first i u e
+
     by : (f : Found v vs) → Decided (v ∷ vs) (Some (f .one))
     by f = record { at = place-of (f .one) (f .among) .0; is = place-of (f .one) (f .among) .1; first = each f }
 

@@ -8,7 +8,10 @@ pub mod Stores
 pub mod Blocks
 pub mod Commands
 pub mod Pairing
+pub mod Besides
+pub mod Depth
 pub mod Steps
 pub mod Whole
+pub mod Serves
 pub mod Least
 pub mod Short

@@ -1,16 +1,12 @@
 -- When the machine, from a state, does what a part of the named meaning answers.
-use Prim.Native.Nat.{ℕ, zero, suc, _+_, _-_, _≤_, _<_}
-use native.Mathlib.Omega.{arith}
-use mathlib.Core.Path.{_≡_, refl, sym, _∙_, ap, ap₂, subst, subst₂}
+use Prim.Native.Nat.{ℕ, _+_, _<_}
+use mathlib.Core.Path.{_≡_, refl, sym, _∙_, ap, subst, subst₂}
 use mathlib.Core.Bool.{Bool, true, false, not, cond}
-use mathlib.Core.List.{List, [], _∷_, _++_}
+use mathlib.Core.List.{List, _∷_}
 use lib.Dec.{T, ltb, leb, ltb→lt, nleb→lt}
-use lib.ListN.{length, replicate}
 use Rattle.std.specs.Finite.{nth}
 use Rattle.std.specs.declared.option.Option.{Option}
 use Rattle.std.specs.declared.option.Option.the-variants.{Some, None}
-use Rattle.std.specs.declared.result.Result.{Result}
-use Rattle.std.specs.declared.result.Result.the-variants.{Ok, Err}
 use Rattle.lang.specs.declared.name.Name.{Name}
 use Rattle.lang.specs.declared.value.Value.{Value}
 use Rattle.lang.specs.declared.value.Value.the-variants.{Number, Truth}
@@ -18,13 +14,12 @@ use Rattle.lang.specs.declared.fault.Fault.{Fault}
 use Rattle.lang.specs.declared.fault.Fault.the-variants as fault
 use Rattle.lang.specs.declared.refusal.Refusal.the-variants.{TooManyFrames, TooManySlots, ChainTooDeep}
 use Rattle.lang.specs.declared.instruction.Instruction.{Instruction}
-use Rattle.frames.specs.Frames.{Frame, Frames, none, _▷_, count, total, newest, walk, Built, refused, done, deep, fresh, grown, opened, enteredFrom, entered}
+use Rattle.frames.specs.Frames.{Frame, Frames, _▷_, count, total, newest, walk, refused, done, deep, fresh, grown, enteredFrom, entered}
 use Rattle.meaning.specs.Tree.{Place}
 use Rattle.meaning.specs.Limits.{mostSteps, mostFrames, mostSlots}
-use Rattle.meaning.specs.Scopes.{Scope}
-use Rattle.meaning.specs.Operators.{Worked}
-use Rattle.meaning.specs.Machine.{Machine, Next, go, stop, ended, stuck, failed, on, gives, branched, answered, act, fetched, step}
-use Rattle.meaning.specs.Meaning.{Answer, ok, fault as faulted, Run, bind, tick, faults, settle, isTrue, Env, Store, Room, opens}
+use Rattle.meaning.specs.Scopes.{Scope, Use, find}
+use Rattle.meaning.specs.Machine.{Machine, Next, go, stop, branched, answered, act, fetched, step}
+use Rattle.meaning.specs.Meaning.{Answer, ok, fault as faulted, Run, bind, tick, faults, isTrue, Env, Store, Room, opens}
 use Rattle.meaning.specs.Uses.{Uses}
 use Rattle.meaning.specs.Pairs.{scopeOf, Stand}
 use Rattle.meaning.proofs.Basics.{not-both, from-true}
@@ -33,14 +28,17 @@ use Rattle.meaning.proofs.Pieces.{Text, At, at-head, at-use}
 abbrev pub mach : ℕ → List Value → List ℕ → Frames → ℕ → Machine
 mach i vs rs fs s = record { at = i; values = vs; returns = rs; frames = fs; steps = s }
 
--- at a use the frames stand for an environment of the use's scope
+abbrev pub Visible : Option Use → Type 0
+Visible None = ⊥
+Visible (Some u) = Unit {0}
+
+-- at a use the name is visible, and the frames stand for an environment of its scope
 abbrev pub Kept : Text → Option (Option (Name × Scope)) → Frames → Type 0
 Kept t None fs = Unit {0}
 Kept t (Some None) fs = Unit {0}
-Kept t (Some (Some u)) fs = (env : Env) × (st : Store) × (scopeOf env ≡ u .1) × Stand (t .code) st env fs
+Kept t (Some (Some u)) fs = (env : Env) × (st : Store) × (scopeOf env ≡ u .1) × Visible (find (u .0) (u .1)) × Stand (t .code) st env fs
 
 module _ (t : Text) where
-
   abbrev pub Keeps : Machine → Type 0
   Keeps m = Kept t (nth (t .uses) (m .at)) (m .frames)
 
@@ -81,6 +79,7 @@ module _ (t : Text) where
     where
       steps : (b : Bool) → ltb s mostSteps ≡ b → step (t .code) (mach i vs rs fs s) ≡ cond b (act c p (mach i vs rs fs (s + 1))) (stop fault.Steps p s)
       steps b l = ap (λ (o : Option (Instruction × Place)). fetched o (mach i vs rs fs s)) e ∙ ap (λ (b : Bool). cond b (act c p (mach i vs rs fs (s + 1))) (stop fault.Steps p s)) l
+
       by : (b : Bool) → ltb s mostSteps ≡ b → Meets Q (mach i vs rs fs s) (bind (cond b (ok tt (s + 1)) (faulted fault.Steps p s)) k)
       by true l = after-meets w (steps true l) (h (ltb→lt s mostSteps (from-true _ l)))
       by false l = stops w (steps false l)
@@ -92,8 +91,8 @@ module _ (t : Text) where
   pub meets-line : {A : Type 0} {Q : A → ℕ → Machine → Type 0} {i j : ℕ} {vs : List Value} {rs : List ℕ} {fs : Frames} {s : ℕ} {c : Instruction} {p : Place} {cs : List (Instruction × Place)} {us : Uses} (k : Unit {0} → Run A) → At t i ((c, p) ∷ cs) (None ∷ us) j → (s < mostSteps → After Q (act c p (mach i vs rs fs (s + 1))) (k tt (s + 1))) → Meets Q (mach i vs rs fs s) (bind (tick p s) k)
   meets-line {i = i} {fs = fs} k a h = meets-tick k (keeps-at i fs None (at-use t a) tt) (at-head t a) h
 
-  pub meets-use : {A : Type 0} {Q : A → ℕ → Machine → Type 0} {i j : ℕ} {vs : List Value} {rs : List ℕ} {fs : Frames} {s : ℕ} {c : Instruction} {p : Place} {x : Name} {cs : List (Instruction × Place)} {us : Uses} (k : Unit {0} → Run A) (env : Env) (st : Store) → Stand (t .code) st env fs → At t i ((c, p) ∷ cs) (Some (x, scopeOf env) ∷ us) j → (s < mostSteps → After Q (act c p (mach i vs rs fs (s + 1))) (k tt (s + 1))) → Meets Q (mach i vs rs fs s) (bind (tick p s) k)
-  meets-use {i = i} {fs = fs} {x = x} k env st w a h = meets-tick k (keeps-at i fs (Some (x, scopeOf env)) (at-use t a) (env, st, refl, w)) (at-head t a) h
+  pub meets-use : {A : Type 0} {Q : A → ℕ → Machine → Type 0} {i j : ℕ} {vs : List Value} {rs : List ℕ} {fs : Frames} {s : ℕ} {c : Instruction} {p : Place} {x : Name} {cs : List (Instruction × Place)} {us : Uses} (k : Unit {0} → Run A) (env : Env) (st : Store) → Visible (find x (scopeOf env)) → Stand (t .code) st env fs → At t i ((c, p) ∷ cs) (Some (x, scopeOf env) ∷ us) j → (s < mostSteps → After Q (act c p (mach i vs rs fs (s + 1))) (k tt (s + 1))) → Meets Q (mach i vs rs fs s) (bind (tick p s) k)
+  meets-use {i = i} {fs = fs} {x = x} k env st v w a h = meets-tick k (keeps-at i fs (Some (x, scopeOf env)) (at-use t a) (env, st, refl, v, w)) (at-head t a) h
 
   pub after-faults : {A : Type 0} {Q : A → ℕ → Machine → Type 0} (b : Bool) (f : Fault) (p s : ℕ) {x : Next} (k : Unit {0} → Run A) → After Q x (k tt s) → After Q (cond b (stop f p s) x) (bind (faults b f p s) k)
   after-faults true f p s k x = halted
@@ -112,7 +111,7 @@ module _ (t : Text) where
   -- a frame more, whose parent is the last of gs
   pub after-grown : {A : Type 0} {Q : A → ℕ → Machine → Type 0} (n : ℕ) (fs gs : Frames) (r : Room) (p s : ℕ) (m : Machine) (F : Frames → Next) (k : Unit {0} → Run A) → m .steps ≡ s → count fs ≡ r .frames → total fs ≡ r .slots → deep gs ≡ false → (count fs < mostFrames → After Q (F (fs ▷ fresh n (newest gs))) (k tt s)) → After Q (answered (grown fs gs n .answer) (F (grown fs gs n .after)) p m) (bind (opens n r p s) k)
   after-grown {A} {Q} n fs gs r p s m F k z e f d x = subst₂ (λ (a b : ℕ). After Q (answered (grown fs gs n .answer) (F (grown fs gs n .after)) p m) (bind (bind (faults (leb mostFrames a) fault.Frames p s) (λ _. faults (ltb mostSlots (b + n)) fault.Slots p)) k)) e f
-    (subst (λ (s : ℕ). (count fs < mostFrames → After Q (F (fs ▷ fresh n (newest gs))) (k tt s)) → After Q (answered (grown fs gs n .answer) (F (grown fs gs n .after)) p m) (bind (bind (faults (leb 256 (count fs)) fault.Frames p s) (λ _. faults (ltb 2048 (total fs + n)) fault.Slots p)) k)) z (by (leb 256 (count fs)) (ltb 2048 (total fs + n)) (deep gs) refl d) x)
+      (subst (λ (s : ℕ). (count fs < mostFrames → After Q (F (fs ▷ fresh n (newest gs))) (k tt s)) → After Q (answered (grown fs gs n .answer) (F (grown fs gs n .after)) p m) (bind (bind (faults (leb 256 (count fs)) fault.Frames p s) (λ _. faults (ltb 2048 (total fs + n)) fault.Slots p)) k)) z (by (leb 256 (count fs)) (ltb 2048 (total fs + n)) (deep gs) refl d) x)
     where
       by : (a b c : Bool) → leb 256 (count fs) ≡ a → c ≡ false → (count fs < mostFrames → After Q (F (fs ▷ fresh n (newest gs))) (k tt (m .steps))) → After Q (answered (cond a (refused TooManyFrames fs) (cond b (refused TooManySlots fs) (cond c (refused ChainTooDeep fs) (done (fs ▷ fresh n (newest gs))))) .answer) (F (cond a (refused TooManyFrames fs) (cond b (refused TooManySlots fs) (cond c (refused ChainTooDeep fs) (done (fs ▷ fresh n (newest gs))))) .after)) p m) (bind (bind (faults a fault.Frames p (m .steps)) (λ _. faults b fault.Slots p)) k)
       by true b c q h x = halted

@@ -1,23 +1,21 @@
 -- Where frames stand for an environment, the pairs of names lead to what the names stand for.
-use Prim.Native.Nat.{ℕ, zero, suc, _+_}
+use Prim.Native.Nat.{ℕ}
 use mathlib.Core.Path.{_≡_, refl, sym, _∙_, ap, subst}
 use mathlib.Core.Bool.{Bool, true, false, cond}
-use mathlib.Core.List.{List, [], _∷_, _++_}
+use mathlib.Core.List.{List, [], _∷_}
 use Rattle.std.specs.Finite.{nth}
 use Rattle.std.specs.declared.option.Option.{Option}
 use Rattle.std.specs.declared.option.Option.the-variants.{Some, None}
-use Rattle.std.specs.declared.result.Result.the-variants.{Ok}
 use Rattle.lang.specs.declared.name.Name.{Name}
 use Rattle.lang.specs.declared.value.Slot.{Slot}
 use Rattle.lang.specs.Names.{same}
-use Rattle.frames.specs.Frames.{Frame, Frames, none, _▷_, upTo, walk, asked, got}
-use Rattle.meaning.specs.Scopes.{Scope, Use, further, outward, among, orOutward, find}
+use Rattle.frames.specs.Frames.{Frames, none, _▷_, upTo, walk, asked, got}
+use Rattle.meaning.specs.Scopes.{Scope, Use, further, among, orOutward, find}
 use Rattle.meaning.specs.Translation.{Code}
 use Rattle.meaning.specs.Meaning.{Meant, Bound, Env, Store, here, orOut, lookup}
-use Rattle.meaning.specs.Pairs.{sortOf, names, scopeOf, Holds, HoldAll, Stand, Agree, Agrees, Pairs-lead}
+use Rattle.meaning.specs.Pairs.{sortOf, names, scopeOf, Holds, HoldAll, Stand, Agrees, Pairs-lead}
 
 module _ (code : Code) (st : Store) where
-
   -- within a frame
   abbrev LeadsIn : Scope → List Slot → Option Meant → Option Use → Type 0
   LeadsIn g ss None None = Unit {0}
@@ -49,13 +47,13 @@ module _ (code : Code) (st : Store) where
       by None None s (Some b) (Some u) k = record { sort = k .sort; frame = k .frame; slot = k .slot; read = k .read; holds = k .holds }
       by None (Some u) s q n k = absurd s
       by (Some b) None s q n k = absurd s
-      by (Some b) (Some u) s q n k = record
-        { sort = s .0
-        ; frame = subst (λ (n : ℕ). Stand code st (bs ∷ env) (walk n (fs ▷ f))) (sym (s .1)) h
-        ; slot = s .2
-        ; read = ap (λ (n : ℕ). got (fs ▷ f) n (u .offset)) (s .1) ∙ ap asked (s .3)
-        ; holds = s .4
-        }
+      by (Some b) (Some u) s q n k = record {
+        sort = s .0;
+        frame = subst (λ (n : ℕ). Stand code st (bs ∷ env) (walk n (fs ▷ f))) (sym (s .1)) h;
+        slot = s .2;
+        read = ap (λ (n : ℕ). got (fs ▷ f) n (u .offset)) (s .1) ∙ ap asked (s .3);
+        holds = s .4;
+      }
 
 pub pairs-lead : Pairs-lead
 pairs-lead code st env fs h x = leads code st x env fs h

@@ -1,18 +1,18 @@
 -- Pieces of code, each with its uses, in the code of a rule.
-use Prim.Native.Nat.{ℕ, zero, suc, _+_, _-_, _≤_, _<_}
+use Prim.Native.Nat.{ℕ, zero, suc, _+_}
 use native.Mathlib.Omega.{arith}
-use mathlib.Core.Path.{_≡_, refl, sym, _∙_, ap, ap₂, subst}
-use mathlib.Core.List.{List, [], _∷_, _++_}
+use mathlib.Core.Path.{_≡_, refl, sym, _∙_, ap, subst}
+use mathlib.Core.List.{[], _∷_, _++_}
 use lib.ListN.{length, length-append}
 use Rattle.std.specs.Finite.{nth}
 use Rattle.std.specs.declared.option.Option.{Option}
-use Rattle.std.specs.declared.option.Option.the-variants.{Some, None}
+use Rattle.std.specs.declared.option.Option.the-variants.{Some}
 use Rattle.lang.specs.declared.name.Name.{Name}
 use Rattle.lang.specs.declared.instruction.Instruction.{Instruction}
 use Rattle.meaning.specs.Tree.{Place, Expr, number, truth, read, signed, binary, both, either, choose, local, apply, Args, no-args, arg, Data, no-data, const, var, Command, block, assign, perform, fork, while, Commands, no-commands, then, Routines, no-routines, fun, proc, data-slots}
 use Rattle.meaning.specs.Scopes.{Scope, constant, params, dataNames, blockNames}
 use Rattle.meaning.specs.Translation.{Code, codeE, codeA, codeD, codeC, codeS, codeR}
-use Rattle.meaning.specs.Uses.{Uses, none, usesE, usesA, usesD, usesC, usesS, usesR}
+use Rattle.meaning.specs.Uses.{Uses, usesE, usesA, usesD, usesC, usesS, usesR}
 use Rattle.meaning.specs.Pairs.{StandsAt}
 use Rattle.meaning.proofs.Basics.{same-append, append-nil, append-assoc, nth-seam, none-some}
 
@@ -23,6 +23,7 @@ pub record Text : Type 0 where
 -- every instruction has its use
 mutual
   unfolding usesE codeE
+
   pub lengthE : (e : Expr) (g : Scope) → length (usesE g e) ≡ length (codeE g e)
   lengthE (number p n) g = refl
   lengthE (truth p b) g = refl
@@ -34,6 +35,7 @@ mutual
   lengthE (choose p c e f) g = same-append _ _ _ _ (lengthE c g) (ap suc (same-append _ _ _ _ (lengthE e g) (ap suc (lengthE f g))))
   lengthE (local p q x e f) g = ap suc (same-append _ _ _ _ (lengthE e ([] ∷ g)) (ap suc (same-append _ _ _ _ (lengthE f (((x, constant) ∷ []) ∷ g)) refl)))
   lengthE (apply p x es) g = same-append _ _ _ _ (lengthA es g) refl
+
   pub lengthA : (es : Args) (g : Scope) → length (usesA g es) ≡ length (codeA g es)
   lengthA no-args g = refl
   lengthA (arg es e) g = same-append _ _ _ _ (lengthA es g) (lengthE e g)
@@ -46,22 +48,24 @@ lengthD (var ds p q x e) g = same-append _ _ _ _ (lengthD ds g) (same-append _ _
 
 mutual
   unfolding usesC codeC
+
   pub lengthC : (c : Command) (g : Scope) → length (usesC g c) ≡ length (codeC g c)
   lengthC (block p ds rs cs) g = ap suc (same-append _ _ _ _ (lengthD ds g) (same-append _ _ _ _ (lengthR rs (blockNames ds rs ∷ g) (data-slots ds)) (same-append _ _ _ _ (lengthS cs (blockNames ds rs ∷ g)) refl)))
   lengthC (assign p x e) g = same-append _ _ _ _ (lengthE e g) refl
   lengthC (perform p q x es) g = same-append _ _ _ _ (lengthA es g) refl
   lengthC (fork p e c d) g = same-append _ _ _ _ (lengthE e g) (ap suc (same-append _ _ _ _ (lengthC c g) (ap suc (lengthC d g))))
   lengthC (while p e c) g = same-append _ _ _ _ (lengthE e g) (ap suc (same-append _ _ _ _ (lengthC c g) refl))
+
   pub lengthS : (cs : Commands) (g : Scope) → length (usesS g cs) ≡ length (codeS g cs)
   lengthS no-commands g = refl
   lengthS (then cs c) g = same-append _ _ _ _ (lengthS cs g) (lengthC c g)
+
   pub lengthR : (rs : Routines) (g : Scope) (n : ℕ) → length (usesR g rs) ≡ length (codeR n g rs)
   lengthR no-routines g n = refl
   lengthR (fun rs p q x ps e) g n = same-append _ _ _ _ (lengthR rs g n) (ap suc (same-append _ _ _ _ (lengthE e (params ps ∷ g)) refl))
   lengthR (proc rs p q x ps c) g n = same-append _ _ _ _ (lengthR rs g n) (ap suc (same-append _ _ _ _ (lengthC c (params ps ∷ g)) refl))
 
 module _ (t : Text) where
-
   -- a piece of code, with its uses, stands from i up to j
   pub data At : ℕ → Code → Uses → ℕ → Type 0 where
     end : {i : ℕ} → At i [] [] i
@@ -118,9 +122,9 @@ at-whole t a [] u [] e f l m = subst (λ (j : ℕ). At t (length a) [] [] j) (ap
 at-whole t a [] u (y ∷ v) e f l m = absurd (omega arith)
 at-whole t a (c ∷ b) u [] e f l m = absurd (omega arith)
 at-whole t a (c ∷ b) u (y ∷ v) e f l m = next
-  (ap (λ (d : Code). nth d (length a)) e ∙ nth-seam a b c)
-  (ap (λ (d : Uses). nth d (length a)) f ∙ ap (λ (n : ℕ). nth (u ++ (y ∷ v)) n) (sym l) ∙ nth-seam u v y)
-  (subst (λ (i : ℕ). At t i b v (length (t .code))) (length-append a (c ∷ []))
+    (ap (λ (d : Code). nth d (length a)) e ∙ nth-seam a b c)
+    (ap (λ (d : Uses). nth d (length a)) f ∙ ap (λ (n : ℕ). nth (u ++ (y ∷ v)) n) (sym l) ∙ nth-seam u v y)
+    (subst (λ (i : ℕ). At t i b v (length (t .code))) (length-append a (c ∷ []))
     (at-whole t (a ++ (c ∷ [])) b (u ++ (y ∷ [])) v (e ∙ sym (append-assoc a (c ∷ []) b)) (f ∙ sym (append-assoc u (y ∷ []) v)) (same-append u (y ∷ []) a (c ∷ []) l refl) (omega arith)))
 
 pub at-start : (t : Text) → length (t .uses) ≡ length (t .code) → At t 0 (t .code) (t .uses) (length (t .code))

@@ -1,22 +1,21 @@
 -- Shades of frames: for each slot what it is to the named meaning. With a store they show frames.
 use Prim.Native.Nat.{ℕ, zero, suc, _+_, _≤_, _<_}
 use native.Mathlib.Omega.{arith}
-use mathlib.Core.Path.{_≡_, refl, sym, _∙_, ap, ap₂, subst}
+use mathlib.Core.Path.{_≡_, refl, _∙_, ap, ap₂}
 use mathlib.Core.Bool.{Bool, true, false, cond}
-use mathlib.Core.List.{List, [], _∷_, _++_, map}
-use lib.Dec.{eqb, ltb}
-use lib.ListN.{length, length-map, set, replicate}
+use mathlib.Core.List.{List, map}
+use lib.Dec.{eqb}
+use lib.ListN.{length, length-map}
 use Rattle.std.specs.Finite.{nth}
 use Rattle.std.specs.declared.option.Option.{Option}
 use Rattle.std.specs.declared.option.Option.the-variants.{Some, None}
-use Rattle.std.specs.declared.result.Result.{Result}
-use Rattle.std.specs.declared.result.Result.the-variants.{Ok, Err}
+use Rattle.std.specs.declared.result.Result.the-variants.{Ok}
 use Rattle.lang.specs.declared.value.Value.{Value}
 use Rattle.lang.specs.declared.value.Slot.{Slot}
 use Rattle.lang.specs.declared.value.Slot.the-variants as slot
 use Rattle.lang.specs.declared.refusal.Refusal.{Refusal}
 use Rattle.lang.specs.Values.{slotOf}
-use Rattle.frames.specs.Frames.{Frame, Frames, none, _▷_, count, total, newest, upTo, walk, asked, lastSlot, got, Built, refused, done, stands, deep, filled, filledIn, writtenFrom, written}
+use Rattle.frames.specs.Frames.{Frame, Frames, none, _▷_, count, total, newest, upTo, walk, asked, lastSlot, got, refused, done, filled, filledIn, written}
 use Rattle.meaning.specs.Meaning.{Store, valueAt}
 use Rattle.meaning.proofs.Basics.{eqb-same, eqb-less, ltb-true, none-some, mapO, nth-map}
 
@@ -38,7 +37,6 @@ pub record Shade : Type 0 where
   pub parent : Option ℕ
 
 infixl 20 _▸_
-
 pub data Shades : Type 0 where
   empty : Shades
   _▸_ : Shades → Shade → Shades
@@ -158,4 +156,4 @@ down-last (deeper {v = v} {w = w} {f = f} t) = by v (part-height t) (down-last t
 -- writing a slot of the last frame
 pub written-last : (fs : Frames) (f : Frame) (o : ℕ) (v : Slot) → o < length (f .slots) → written (fs ▷ f) 0 o v ≡ done (fs ▷ filled f o v)
 written-last fs f o v l = ap (λ (b : Bool). cond b (done (filledIn (count fs) o v (fs ▷ f))) (refused Refusal.NoSuchSlot (fs ▷ f))) (ltb-true o (length (f .slots)) l)
-  ∙ ap (λ (b : Bool). done (cond b (fs ▷ filled f o v) (filledIn (count fs) o v fs ▷ f))) (eqb-same (count fs))
+    ∙ ap (λ (b : Bool). done (cond b (fs ▷ filled f o v) (filledIn (count fs) o v fs ▷ f))) (eqb-same (count fs))

@@ -1,11 +1,11 @@
 -- Every step counts one and keeps the machine within its memory.
-use Prim.Native.Nat.{ℕ, zero, suc, _+_, _-_, _≤_, _<_}
+use Prim.Native.Nat.{ℕ, zero, suc, _+_, _≤_, _<_}
 use native.Mathlib.Omega.{arith}
-use mathlib.Core.Path.{_≡_, refl, sym, _∙_, ap, subst}
+use mathlib.Core.Path.{_≡_, refl, sym, ap, subst}
 use mathlib.Core.Bool.{Bool, true, false, not, cond}
-use mathlib.Core.List.{List, [], _∷_, _++_}
+use mathlib.Core.List.{List, [], _∷_}
 use lib.Dec.{T, leb, ltb, eqb, nleb→lt, nltb→le, ltb→lt}
-use lib.ListN.{length, set, replicate, length-set, length-replicate}
+use lib.ListN.{length, length-set, length-replicate}
 use lib.IntN.{ℤ, _+ℤ_, _-ℤ_, _*ℤ_, negℤ}
 use Rattle.std.specs.Finite.{nth}
 use Rattle.std.specs.declared.option.Option.{Option}
@@ -23,48 +23,44 @@ use Rattle.lang.specs.declared.refusal.Refusal.{Refusal}
 use Rattle.lang.specs.declared.refusal.Refusal.the-variants.{ShortMemory, BadSheet, TextTooLong, BadByte, NameTooLong, NumberTooLarge, Unexpected, NestTooDeep, TooManyNodes, NotVisible, NameTwice, WrongSort, WrongCount, ScopesTooDeep, TooManyNames, RunOpen, NoRule, NoRun, BadEntry, TooManyFrames, TooManySlots, ChainTooDeep, NoSuchSlot}
 use Rattle.lang.specs.declared.instruction.Instruction.{Instruction}
 use Rattle.lang.specs.declared.instruction.Instruction.the-variants.{Push, Load, Minus, Not, Add, Sub, Mul, Equal, Less, And, Or, Pick, Fork, Skip, Leave, Again, Open, Fill, Shut, Fun, Proc, Call, Do, Back, Store, Let}
-use Rattle.frames.specs.Frames.{Frame, Frames, none, _▷_, count, total, newest, walk, got, Built, refused, done, deep, fresh, grown, opened, enteredFrom, entered, left, filled, filledIn, writtenFrom, written}
+use Rattle.frames.specs.Frames.{Frames, none, _▷_, count, total, newest, walk, got, Built, refused, done, deep, fresh, grown, opened, enteredFrom, entered, left, filled, filledIn, writtenFrom, written}
 use Rattle.meaning.specs.Tree.{Place, Sign, minus, negate, Operator, add, sub, mul, equal, less}
 use Rattle.meaning.specs.Limits.{mostSteps, mostFrames, mostSlots, mostValues, mostReturns}
 use Rattle.meaning.specs.Operators.{Worked, fits, ranged, worked, conjoined, disjoined, withSign, alike}
 use Rattle.meaning.specs.Translation.{Code}
-use Rattle.meaning.specs.Machine.{Machine, Next, go, stop, ended, stuck, failed, on, onFrames, pushed, loadedValue, loaded, gives, onOne, onTwo, branched, faultOf, refusedBy, answered, built, filling, storedOver, storedIn, storing, moved, calledAt, called, returned, act, counted, fetched, step, after, goes}
-use Rattle.meaning.specs.Agreement.{faultAt, Within}
+use Rattle.meaning.specs.Machine.{Machine, Next, go, stop, ended, stuck, failed, on, pushed, loadedValue, loaded, gives, onOne, onTwo, branched, faultOf, refusedBy, answered, built, filling, storedOver, storedIn, storing, moved, calledAt, called, returned, act, counted, fetched, step, after}
+use Rattle.meaning.specs.Agreement.{faultAt, Shallow, Within}
+use Rattle.meaning.proofs.Depth.{Older, whole, walk-older, grown-shallow, filled-count, filled-shallow}
 
 -- frames within their memory
 abbrev Fit : Frames → Type 0
-Fit fs = (count fs ≤ mostFrames) × (total fs ≤ mostSlots)
+Fit fs = (count fs ≤ mostFrames) × (total fs ≤ mostSlots) × Shallow fs
+
+abbrev Sized : Frames → Type 0
+Sized fs = (count fs ≤ mostFrames) × (total fs ≤ mostSlots)
 
 not-true : (b : Bool) → b ≡ false → T (not b)
 not-true b e = subst (λ (b : Bool). T (not b)) (sym e) tt
 
-grown-fit : (fs gs : Frames) (n : ℕ) → Fit fs → Fit (grown fs gs n .after)
-grown-fit fs gs n h = by (leb 256 (count fs)) (ltb 2048 (total fs + n)) (deep gs) refl refl
+grown-fit : (fs gs : Frames) (n : ℕ) → Older gs fs → Fit fs → Fit (grown fs gs n .after)
+grown-fit fs gs n t h = let r = by (leb 256 (count fs)) (ltb 2048 (total fs + n)) (deep gs) refl refl in (r .0, r .1, grown-shallow fs gs n t (h .2))
   where
-    by : (a b c : Bool) → leb 256 (count fs) ≡ a → ltb 2048 (total fs + n) ≡ b → Fit (cond a (refused TooManyFrames fs) (cond b (refused TooManySlots fs) (cond c (refused ChainTooDeep fs) (done (fs ▷ fresh n (newest gs))))) .after)
-    by true b c p q = h
-    by false true c p q = h
-    by false false true p q = h
+    by : (a b c : Bool) → leb 256 (count fs) ≡ a → ltb 2048 (total fs + n) ≡ b → Sized (cond a (refused TooManyFrames fs) (cond b (refused TooManySlots fs) (cond c (refused ChainTooDeep fs) (done (fs ▷ fresh n (newest gs))))) .after)
+    by true b c p q = (h .0, h .1)
+    by false true c p q = (h .0, h .1)
+    by false false true p q = (h .0, h .1)
     by false false false p q = let x = nleb→lt 256 (count fs) (not-true _ p) in let y = nltb→le 2048 (total fs + n) (not-true _ q) in let z = length-replicate n slot.Unset in (omega arith, omega arith)
 
 entered-fit : (fs : Frames) (h n : ℕ) → Fit fs → Fit (entered fs h n .after)
-entered-fit fs h n x = by (walk h fs)
+entered-fit fs h n x = by (walk h fs) (walk-older h fs)
   where
-    by : (gs : Frames) → Fit (enteredFrom fs gs n .after)
-    by none = x
-    by (gs ▷ g) = grown-fit fs (gs ▷ g) n x
+    by : (gs : Frames) → Older gs fs → Fit (enteredFrom fs gs n .after)
+    by none t = x
+    by (gs ▷ g) t = grown-fit fs (gs ▷ g) n t x
 
 left-fit : (fs : Frames) → Fit fs → Fit (left fs .after)
 left-fit none h = h
-left-fit (fs ▷ f) h = let x = h .0 in let y = h .1 in (omega arith, omega arith)
-
-filled-count : (k o : ℕ) (v : Slot) (fs : Frames) → count (filledIn k o v fs) ≡ count fs
-filled-count k o v none = refl
-filled-count k o v (fs ▷ f) = by (eqb k (count fs)) (filled-count k o v fs)
-  where
-    by : (b : Bool) → count (filledIn k o v fs) ≡ count fs → count (cond b (fs ▷ filled f o v) (filledIn k o v fs ▷ f)) ≡ suc (count fs)
-    by true e = refl
-    by false e = ap suc e
+left-fit (fs ▷ f) h = let x = h .0 in let y = h .1 in (omega arith, omega arith, h .2 .1)
 
 filled-total : (k o : ℕ) (v : Slot) (fs : Frames) → total (filledIn k o v fs) ≡ total fs
 filled-total k o v none = refl
@@ -78,8 +74,9 @@ written-fit : (fs : Frames) (h o : ℕ) (v : Slot) → Fit fs → Fit (written f
 written-fit fs h o v x = by (walk h fs)
   where
     in-frame : (b : Bool) (k : ℕ) → Fit (cond b (done (filledIn k o v fs)) (refused NoSuchSlot fs) .after)
-    in-frame true k = let y = filled-count k o v fs in let z = filled-total k o v fs in let a = x .0 in let b = x .1 in (omega arith, omega arith)
+    in-frame true k = let y = filled-count k o v fs in let z = filled-total k o v fs in let a = x .0 in let b = x .1 in (omega arith, omega arith, filled-shallow k o v fs (x .2))
     in-frame false k = x
+
     by : (gs : Frames) → Fit (writtenFrom fs gs o v .after)
     by none = x
     by (gs ▷ g) = in-frame (ltb o (length (g .slots))) (count gs)
@@ -90,18 +87,18 @@ data Did (m : Machine) : Next → Type 0 where
   fell : {f : Fault} {p : Place} → faultAt f (m .steps) ≡ m .steps → Did m (stop f p (m .steps))
   hung : Did m stuck
 
-within : (i : ℕ) (vs : List Value) (rs : List ℕ) (fs : Frames) (s : ℕ) → length vs ≤ mostValues → length rs ≤ mostReturns → Fit fs → Within (record { at = i; values = vs; returns = rs; frames = fs; steps = s })
-within i vs rs fs s v r h = record { values = v; returns = r; frames = h .0; slots = h .1 }
+within : (i : ℕ) (vs : List Value) (rs : List ℕ) (fs : Frames) (s : ℕ) → s ≤ mostSteps → length vs ≤ mostValues → length rs ≤ mostReturns → Fit fs → Within (record { at = i; values = vs; returns = rs; frames = fs; steps = s })
+within i vs rs fs s n v r h = record { values = v; returns = r; frames = h .0; slots = h .1; chains = h .2; steps = n }
 
 did-on : (i : ℕ) (vs : List Value) (m : Machine) → length vs ≤ length (m .values) → Did m (on i vs m)
-did-on i vs m l = did refl (λ w. within i vs (m .returns) (m .frames) (m .steps) (let x = w .values in omega arith) (w .returns) (w .frames, w .slots))
+did-on i vs m l = did refl (λ w. within i vs (m .returns) (m .frames) (m .steps) (w .steps) (let x = w .values in omega arith) (w .returns) (w .frames, w .slots, w .chains))
 
 did-pushed : (v : Value) (p : Place) (m : Machine) → Did m (pushed v p m)
 did-pushed v p m = by (leb mostValues (length (m .values))) refl
   where
     by : (b : Bool) → leb mostValues (length (m .values)) ≡ b → Did m (cond b (failed fault.Values p m) (on (m .at + 1) (v ∷ m .values) m))
     by true e = fell refl
-    by false e = did refl (λ w. within _ _ _ _ _ (let x = nleb→lt mostValues (length (m .values)) (not-true _ e) in omega arith) (w .returns) (w .frames, w .slots))
+    by false e = did refl (λ w. within _ _ _ _ _ (w .steps) (let x = nleb→lt mostValues (length (m .values)) (not-true _ e) in omega arith) (w .returns) (w .frames, w .slots, w .chains))
 
 did-loaded : (r : Result Slot Refusal) (p : Place) (m : Machine) → Did m (loaded r p m)
 did-loaded (Err e) p m = hung
@@ -205,7 +202,7 @@ did-answered (Ok u) n p m d = d
 did-answered (Err e) n p m d = did-refused e p m
 
 did-built : (i : ℕ) (vs : List Value) (b : Built) (p : Place) (m : Machine) → length vs ≤ length (m .values) → (Fit (m .frames) → Fit (b .after)) → Did m (built i vs b p m)
-did-built i vs b p m l h = did-answered (b .answer) _ p m (did refl (λ w. within i vs (m .returns) (b .after) (m .steps) (let x = w .values in omega arith) (w .returns) (h (w .frames, w .slots))))
+did-built i vs b p m l h = did-answered (b .answer) _ p m (did refl (λ w. within i vs (m .returns) (b .after) (m .steps) (w .steps) (let x = w .values in omega arith) (w .returns) (h (w .frames, w .slots, w .chains))))
 
 did-filling : (o : ℕ) (vs : List Value) (p : Place) (m : Machine) → length vs ≤ length (m .values) → Did m (filling o vs p m)
 did-filling o [] p m l = hung
@@ -218,6 +215,7 @@ did-stored (Ok s) v n p m d = by (valueIn s)
     alikes : (b : Bool) → Did m (cond b n (failed fault.Kind p m))
     alikes true = d
     alikes false = fell refl
+
     by : (o : Option Value) → Did m (storedOver o v n p m)
     by None = hung
     by (Some u) = alikes (alike u v)
@@ -240,7 +238,7 @@ did-calledAt k None m h = hung
 did-calledAt k (Some a) m h = by (ltb (length (m .returns)) mostReturns) refl
   where
     by : (b : Bool) → ltb (length (m .returns)) mostReturns ≡ b → Did m (cond b (go (record { at = k; values = a .0; returns = (m .at + 1) ∷ m .returns; frames = a .1; steps = m .steps })) stuck)
-    by true e = did refl (λ w. within _ _ _ _ _ (h w .0) (ltb→lt _ _ (subst T (sym e) tt)) (h w .1))
+    by true e = did refl (λ w. within _ _ _ _ _ (w .steps) (h w .0) (ltb→lt _ _ (subst T (sym e) tt)) (h w .1))
     by false e = hung
 
 did-called : (r : Result Slot Refusal) (h n : ℕ) (p : Place) (m : Machine) → Did m (called r h n p m)
@@ -248,11 +246,11 @@ did-called (Err e) h n p m = hung
 did-called (Ok slot.Unset) h n p m = hung
 did-called (Ok (slot.Number z)) h n p m = hung
 did-called (Ok (slot.Truth b)) h n p m = hung
-did-called (Ok (slot.Position k)) h n p m = did-answered (entered (m .frames) h n .answer) _ p m (did-calledAt k (moved n (m .values) (entered (m .frames) h n .after)) m (λ w. moved-fit n mostValues (m .values) (entered (m .frames) h n .after) (w .values) (entered-fit (m .frames) h n (w .frames, w .slots))))
+did-called (Ok (slot.Position k)) h n p m = did-answered (entered (m .frames) h n .answer) _ p m (did-calledAt k (moved n (m .values) (entered (m .frames) h n .after)) m (λ w. moved-fit n mostValues (m .values) (entered (m .frames) h n .after) (w .values) (entered-fit (m .frames) h n (w .frames, w .slots, w .chains))))
 
 did-returned : (rs : List ℕ) (p : Place) (m : Machine) → length rs ≤ length (m .returns) → Did m (returned rs p m)
 did-returned [] p m l = hung
-did-returned (k ∷ rs) p m l = did-answered (left (m .frames) .answer) _ p m (did refl (λ w. within _ _ _ _ _ (w .values) (let x = w .returns in omega arith) (left-fit (m .frames) (w .frames, w .slots))))
+did-returned (k ∷ rs) p m l = did-answered (left (m .frames) .answer) _ p m (did refl (λ w. within _ _ _ _ _ (w .steps) (w .values) (let x = w .returns in omega arith) (left-fit (m .frames) (w .frames, w .slots, w .chains))))
 
 did-act : (c : Instruction) (p : Place) (m : Machine) → Did m (act c p m)
 did-act (Push v) p m = did-pushed v p m
@@ -271,8 +269,8 @@ did-act (Fork d) p m = did-branched d (m .values) p m (omega arith)
 did-act (Leave d) p m = did-branched d (m .values) p m (omega arith)
 did-act (Skip d) p m = did-on _ (m .values) m (omega arith)
 did-act (Again d) p m = did-on _ (m .values) m (omega arith)
-did-act (Open n) p m = did-built _ (m .values) (opened (m .frames) n) p m (omega arith) (grown-fit (m .frames) (m .frames) n)
-did-act Let p m = did-built _ (m .values) (opened (m .frames) 1) p m (omega arith) (grown-fit (m .frames) (m .frames) 1)
+did-act (Open n) p m = did-built _ (m .values) (opened (m .frames) n) p m (omega arith) (grown-fit (m .frames) (m .frames) n whole)
+did-act Let p m = did-built _ (m .values) (opened (m .frames) 1) p m (omega arith) (grown-fit (m .frames) (m .frames) 1 whole)
 did-act Shut p m = did-built _ (m .values) (left (m .frames)) p m (omega arith) (left-fit (m .frames))
 did-act (Fill o b) p m = did-filling o (m .values) p m (omega arith)
 did-act (Fun o d n) p m = did-built _ (m .values) (written (m .frames) 0 o (slot.Position (m .at + 1))) p m (omega arith) (written-fit (m .frames) 0 o _)
@@ -284,23 +282,24 @@ did-act (Store h o) p m = did-storing h o (m .values) p m (omega arith)
 
 -- a step counts one; a fault shows at the step after those done before it
 abbrev pub Counts : Machine → Next → Type 0
-Counts m (go n) = (n .steps ≡ m .steps + 1) × (Within m → Within n)
-Counts m (stop f p t) = faultAt f t ≡ m .steps + 1
+Counts m (go n) = (n .steps ≡ m .steps + 1) × (Within m → Within n) × (n .steps ≤ mostSteps)
+Counts m (stop f p t) = (faultAt f t ≡ m .steps + 1) × (m .steps ≤ mostSteps → t ≤ mostSteps)
 Counts m ended = Unit {0}
 Counts m stuck = Unit {0}
 
-did-counts : (m : Machine) {n : Next} → Did (counted m) n → Counts m n
-did-counts m (did e h) = (e, λ w. h (record { values = w .values; returns = w .returns; frames = w .frames; slots = w .slots }))
-did-counts m (fell e) = e
-did-counts m hung = tt
+did-counts : (m : Machine) {n : Next} → m .steps < mostSteps → Did (counted m) n → Counts m n
+did-counts m l (did e h) = (e, λ w. h (record { values = w .values; returns = w .returns; frames = w .frames; slots = w .slots; chains = w .chains; steps = omega arith }), omega arith)
+did-counts m l (fell e) = (e, λ w. omega arith)
+did-counts m l hung = tt
 
 pub step-counts : (code : Code) (m : Machine) → Counts m (step code m)
 unfolding step
 step-counts code m = by (nth code (m .at))
   where
-    limited : (b : Bool) (c : Instruction) (p : Place) → Counts m (cond b (act c p (counted m)) (failed fault.Steps p m))
-    limited true c p = did-counts m (did-act c p (counted m))
-    limited false c p = refl
+    limited : (b : Bool) (c : Instruction) (p : Place) → ltb (m .steps) mostSteps ≡ b → Counts m (cond b (act c p (counted m)) (failed fault.Steps p m))
+    limited true c p e = did-counts m (ltb→lt (m .steps) mostSteps (subst T (sym e) tt)) (did-act c p (counted m))
+    limited false c p e = (refl, λ l. l)
+
     by : (o : Option (Instruction × Place)) → Counts m (fetched o m)
     by None = tt
-    by (Some c) = limited (ltb (m .steps) mostSteps) (c .0) (c .1)
+    by (Some c) = limited (ltb (m .steps) mostSteps) (c .0) (c .1) refl

@@ -2,21 +2,20 @@
 use Prim.Native.Nat.{ℕ, zero, suc, _+_, _≤_, _<_}
 use native.Mathlib.Omega.{arith}
 use native.Mathlib.Nat.{zero-add}
-use mathlib.Core.Path.{_≡_, refl, sym, _∙_, ap, ap₂, subst}
+use mathlib.Core.Path.{_≡_, refl, sym, _∙_, ap, ap₂}
 use mathlib.Core.Bool.{Bool, true, false, cond}
 use mathlib.Core.List.{List, [], _∷_, _++_, map}
-use lib.Dec.{T, eqb, eqb→eq, ltb}
-use lib.ListN.{length, getD, set, replicate, length-set, length-append, length-map, List·getD-append}
+use lib.Dec.{eqb, eqb→eq}
+use lib.ListN.{length, set, replicate, length-set, length-append, length-map, List·getD-append}
 use lib.Seq.{getD-set-same, getD-set-other}
 use Rattle.std.specs.Finite.{nth}
 use Rattle.std.specs.declared.option.Option.{Option}
-use Rattle.std.specs.declared.option.Option.the-variants.{Some, None}
+use Rattle.std.specs.declared.option.Option.the-variants.{Some}
 use Rattle.lang.specs.declared.value.Value.{Value}
-use Rattle.lang.specs.declared.value.Value.the-variants.{Number}
 use Rattle.lang.specs.declared.value.Slot.{Slot}
 use Rattle.lang.specs.declared.refusal.Refusal.the-variants.{NoSuchSlot}
 use Rattle.lang.specs.Values.{slotOf}
-use Rattle.frames.specs.Frames.{Frame, Frames, none, _▷_, count, Built, refused, done, filled, filledIn, writtenFrom, written}
+use Rattle.frames.specs.Frames.{Frames, _▷_, count, refused, done, filledIn, writtenFrom, written}
 use Rattle.meaning.specs.Meaning.{Store, valueAt}
 use Rattle.meaning.proofs.Basics.{eqb-same, eqb-less, ltb-true, from-true, none-some, some-is, nth-below}
 use Rattle.meaning.proofs.Shades.{Cell, blank, fixed, located, entry, show, Shade, Shades, empty, _▸_, shade, height, out, cellAt, shown, height-shown, out-shown, Part, whole, deeper, nothing, part-height, out-part}
@@ -75,11 +74,11 @@ others st l v n z k h = getD-set-other st l k v _ (λ e. let x : n k ≡ n l = a
 cells-put : (st : Store) (l : ℕ) (v : Value) → l < length st → (o : ℕ) (cs : List Cell) → nth cs o ≡ Some (located l) → occ l cs ≤ 1 → map (show (set st l v)) cs ≡ set (map (show st) cs) o (slotOf v)
 cells-put st l v h o [] e k = none-some e
 cells-put st l v h zero (c ∷ cs) e k =
-  let x : one l c ≡ 1 = ap (one l) (some-is e) ∙ one-here l in
-  ap₂ _∷_ (ap (show (set st l v)) (some-is e) ∙ ap slotOf (getD-set-same st l v _ h)) (cells-agree _ _ cs (others st l v (λ k. occ k cs) (omega arith)))
+    let x : one l c ≡ 1 = ap (one l) (some-is e) ∙ one-here l in
+    ap₂ _∷_ (ap (show (set st l v)) (some-is e) ∙ ap slotOf (getD-set-same st l v _ h)) (cells-agree _ _ cs (others st l v (λ k. occ k cs) (omega arith)))
 cells-put st l v h (suc o) (c ∷ cs) e k =
-  let x = occ-has l o cs e in
-  ap₂ _∷_ (show-agree _ _ c (others st l v (λ k. one k c) (omega arith))) (cells-put st l v h o cs e (omega arith))
+    let x = occ-has l o cs e in
+    ap₂ _∷_ (show-agree _ _ c (others st l v (λ k. one k c) (omega arith))) (cells-put st l v h o cs e (omega arith))
 
 occs-has : {u w : Shades} (l o : ℕ) → Part u w → cellAt u o ≡ Some (located l) → 1 ≤ occs l w
 occs-has {u} {w} l o whole e = by w e
@@ -101,19 +100,19 @@ shown-put st l v h o {u} {w} whole e k = by w e k
     by : (w : Shades) → cellAt w o ≡ Some (located l) → occs l w ≤ 1 → shown (set st l v) w ≡ filledIn (below w) o (slotOf v) (shown st w)
     by empty e k = none-some e
     by (w ▸ f) e k =
-      let x = occ-has l o (f .cells) e in
-      frames-agree (f .parent) (shown-agree _ _ w (others st l v (λ k. occs k w) (omega arith))) (cells-put st l v h o (f .cells) e (omega arith))
-      ∙ sym (ap (λ (b : Bool). cond b (shown st w ▷ record { slots = set (map (show st) (f .cells)) o (slotOf v); parent = f .parent }) (filledIn (height w) o (slotOf v) (shown st w) ▷ record { slots = map (show st) (f .cells); parent = f .parent })) (ap (eqb (height w)) (height-shown st w) ∙ eqb-same (height w)))
+        let x = occ-has l o (f .cells) e in
+        frames-agree (f .parent) (shown-agree _ _ w (others st l v (λ k. occs k w) (omega arith))) (cells-put st l v h o (f .cells) e (omega arith))
+        ∙ sym (ap (λ (b : Bool). cond b (shown st w ▷ record { slots = set (map (show st) (f .cells)) o (slotOf v); parent = f .parent }) (filledIn (height w) o (slotOf v) (shown st w) ▷ record { slots = map (show st) (f .cells); parent = f .parent })) (ap (eqb (height w)) (height-shown st w) ∙ eqb-same (height w)))
 shown-put st l v h o nothing e k = none-some e
 shown-put st l v h o (deeper {v = u} {w = w} {f = f} t) e k = by u e t (shown-put st l v h o t e (omega arith))
   where
     by : (u : Shades) → cellAt u o ≡ Some (located l) → Part u w → shown (set st l v) w ≡ filledIn (below u) o (slotOf v) (shown st w) → shown (set st l v) (w ▸ f) ≡ filledIn (below u) o (slotOf v) (shown st (w ▸ f))
     by empty e t q = none-some e
     by (u ▸ g) e t q =
-      let x = occs-has l o t e in
-      let y = part-height t in
-      frames-agree (f .parent) q (cells-agree _ _ (f .cells) (others st l v (λ k. occ k (f .cells)) (omega arith)))
-      ∙ sym (ap (λ (b : Bool). cond b (shown st w ▷ record { slots = set (map (show st) (f .cells)) o (slotOf v); parent = f .parent }) (filledIn (height u) o (slotOf v) (shown st w) ▷ record { slots = map (show st) (f .cells); parent = f .parent })) (ap (eqb (height u)) (height-shown st w) ∙ eqb-less (height u) (height w) (omega arith)))
+        let x = occs-has l o t e in
+        let y = part-height t in
+        frames-agree (f .parent) q (cells-agree _ _ (f .cells) (others st l v (λ k. occ k (f .cells)) (omega arith)))
+        ∙ sym (ap (λ (b : Bool). cond b (shown st w ▷ record { slots = set (map (show st) (f .cells)) o (slotOf v); parent = f .parent }) (filledIn (height u) o (slotOf v) (shown st w) ▷ record { slots = map (show st) (f .cells); parent = f .parent })) (ap (eqb (height u)) (height-shown st w) ∙ eqb-less (height u) (height w) (omega arith)))
 
 -- a variable's location is in the store
 pub location-fits : (st : Store) (w : Shades) (h o l : ℕ) → Sound st w → cellAt (out h w) o ≡ Some (located l) → l < length st
@@ -126,9 +125,9 @@ written-put st w h o l v d e = ap (λ (x : Frames). writtenFrom (shown st w) x o
     by : (u : Shades) → Part u w → l < length st → cellAt u o ≡ Some (located l) → writtenFrom (shown st w) (shown st u) o (slotOf v) ≡ done (shown (set st l v) w)
     by empty t q e = none-some e
     by (u ▸ f) t q e =
-      ap (λ (b : Bool). cond b (done (filledIn (count (shown st u)) o (slotOf v) (shown st w))) (refused NoSuchSlot (shown st w))) (ltb-true o (length (map (show st) (f .cells))) (let x = nth-below (f .cells) o e in let y = length-map (f .cells) (show st) in omega arith))
-      ∙ ap (λ (k : ℕ). done (filledIn k o (slotOf v) (shown st w))) (height-shown st u)
-      ∙ ap done (sym (shown-put st l v q o t e (d l .0)))
+        ap (λ (b : Bool). cond b (done (filledIn (count (shown st u)) o (slotOf v) (shown st w))) (refused NoSuchSlot (shown st w))) (ltb-true o (length (map (show st) (f .cells))) (let x = nth-below (f .cells) o e in let y = length-map (f .cells) (show st) in omega arith))
+        ∙ ap (λ (k : ℕ). done (filledIn k o (slotOf v) (shown st w))) (height-shown st u)
+        ∙ ap done (sym (shown-put st l v q o t e (d l .0)))
 
 -- soundness of frames that come and go
 pub sound-left : (st : Store) (f : Shade) (w : Shades) → Sound st (w ▸ f) → Sound st w

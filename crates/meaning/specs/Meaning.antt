@@ -1,20 +1,19 @@
 -- The named meaning: what a rule does, by names, an environment and a store. It reads the tree, never the code.
 use Prim.Native.Nat.{ℕ, zero, suc, _+_}
 use mathlib.Core.Bool.{Bool, true, false, not, cond}
-use mathlib.Core.List.{List, [], _∷_, _++_, map}
+use mathlib.Core.List.{List, [], _∷_, _++_}
 use lib.Dec.{ltb, leb}
 use lib.ListN.{length, getD, set}
 use lib.IntN.{pos}
 use Rattle.std.specs.declared.option.Option.{Option}
 use Rattle.std.specs.declared.option.Option.the-variants.{Some, None}
-use Rattle.std.specs.declared.result.Result.{Result}
 use Rattle.std.specs.declared.result.Result.the-variants.{Ok, Err}
 use Rattle.lang.specs.declared.name.Name.{Name}
 use Rattle.lang.specs.Names.{same}
 use Rattle.lang.specs.declared.value.Value.{Value}
 use Rattle.lang.specs.declared.value.Value.the-variants.{Number, Truth}
 use Rattle.lang.specs.declared.fault.Fault.{Fault}
-use Rattle.lang.specs.declared.fault.Fault.the-variants.{Kind, Range, Frames, Slots, Values, Steps}
+use Rattle.lang.specs.declared.fault.Fault.the-variants.{Kind, Frames, Slots, Values, Steps}
 use Rattle.meaning.specs.Tree.{Place, Expr, number, truth, read, signed, binary, both, either, choose, local, apply, Args, no-args, arg, args, Parameter, Data, no-data, const, var, data-slots, Command, block, assign, perform, fork, while, Commands, no-commands, then, Routines, no-routines, fun, proc, routine-slots}
 use Rattle.meaning.specs.Operators.{Worked, worked, conjoined, disjoined, withSign, alike}
 use Rattle.meaning.specs.Limits.{mostSteps, mostFrames, mostSlots, mostValues}

@@ -1,20 +1,18 @@
 -- Whole runs of a rule over a sheet.
-use Prim.Native.Nat.{ℕ, zero, suc, _+_}
+use Prim.Native.Nat.{ℕ, suc, _+_}
 use mathlib.Core.List.{List, [], _∷_, map}
 use lib.ListN.{length}
 use Rattle.std.specs.declared.option.Option.the-variants.{None}
 use Rattle.lang.specs.declared.value.Value.{Value}
-use Rattle.lang.specs.declared.value.Slot.{Slot}
 use Rattle.lang.specs.Values.{slotOf}
 use Rattle.lang.specs.declared.fault.Fault.{Fault}
-use Rattle.lang.specs.declared.sheet.Mark.{Mark}
 use Rattle.lang.specs.declared.sheet.Mark.the-variants.{Given, Kept}
 use Rattle.lang.specs.declared.sheet.Entry.{Entry}
 use Rattle.frames.specs.Frames.{Frames, none, _▷_}
 use Rattle.meaning.specs.Tree.{Place, Command}
 use Rattle.meaning.specs.Limits.{mostSteps}
 use Rattle.meaning.specs.Machine.{Machine}
-use Rattle.meaning.specs.Meaning.{Answer, ok, fault, Meant, a-value, a-location, Bound, Store, valueAt, Room, runs}
+use Rattle.meaning.specs.Meaning.{Answer, ok, fault, a-value, a-location, Bound, Store, valueAt, runs}
 
 -- the sheet's frame: a given entry is a value, a kept one a location, from l on
 abbrev pub sheetBound : ℕ → List Entry → Bound

@@ -1,15 +1,14 @@
 -- The code of a rule: names become pairs of hops and offset.
-use Prim.Native.Nat.{ℕ, zero, suc, _+_}
+use Prim.Native.Nat.{ℕ, _+_}
 use mathlib.Core.List.{List, [], _∷_, _++_, map}
 use lib.ListN.{length}
 use lib.IntN.{pos}
-use Rattle.lang.specs.declared.name.Name.{Name}
 use Rattle.lang.specs.declared.sheet.Entry.{Entry}
 use Rattle.lang.specs.declared.value.Value.the-variants.{Number, Truth}
 use Rattle.lang.specs.declared.instruction.Binding.the-variants.{Constant, Variable}
 use Rattle.lang.specs.declared.instruction.Instruction.{Instruction}
 use Rattle.lang.specs.declared.instruction.Instruction.the-variants.{Push, Load, Minus, Not, Add, Sub, Mul, Equal, Less, And, Or, Pick, Fork, Skip, Leave, Again, Open, Fill, Shut, Fun, Proc, Call, Do, Back, Store, Let}
-use Rattle.meaning.specs.Tree.{Place, Sign, minus, negate, Operator, add, sub, mul, equal, less, Expr, number, truth, read, signed, binary, both, either, choose, local, apply, Args, no-args, arg, args, Parameter, Data, no-data, const, var, data-slots, Command, block, assign, perform, fork, while, Commands, no-commands, then, Routines, no-routines, fun, proc, routine-slots}
+use Rattle.meaning.specs.Tree.{Place, Sign, minus, negate, Operator, add, sub, mul, equal, less, Expr, number, truth, read, signed, binary, both, either, choose, local, apply, Args, no-args, arg, args, Data, no-data, const, var, data-slots, Command, block, assign, perform, fork, while, Commands, no-commands, then, Routines, no-routines, fun, proc, routine-slots}
 use Rattle.meaning.specs.Scopes.{Scope, constant, find, hopsOf, offsetOf, params, dataNames, blockNames, sheetScope}
 
 -- instructions, each with its place beside it

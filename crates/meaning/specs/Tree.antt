@@ -1,8 +1,8 @@
 -- The tree of a rule. Each node has the place of its construct first; where the name that it declares or calls stands elsewhere, that
 -- name's place comes before the name. Lists are in the order of the text, and grow at their end.
-use Prim.Native.Nat.{ℕ, zero, suc, _+_}
+use Prim.Native.Nat.{ℕ, suc, _+_}
 use mathlib.Core.Bool.{Bool}
-use mathlib.Core.List.{List, [], _∷_}
+use mathlib.Core.List.{List}
 use Rattle.lang.specs.declared.name.Name.{Name}
 
 -- how many bytes of the text stand before a word

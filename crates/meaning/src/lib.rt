@@ -1,7 +1,7 @@
 // The language: what a rule means, what its code is, what the machine does with it, and that they agree.
 // No code runs here: each function's contract is a theorem.
 ghost use Rattle.meaning.specs.Violations.{Refusal-is-least};
-ghost use Rattle.meaning.specs.Agreement.{Code-means, Never-stuck, Runs-cut, Memory-suffices, Pair-law, Code-is-short};
+ghost use Rattle.meaning.specs.Agreement.{Code-means, Never-stuck, Frames-serve, Runs-cut, Runs-end, Memory-suffices, Pair-law, Code-is-short};
 ghost use Rattle.meaning.specs.Pairs.{Pairs-lead};
 ghost use Rattle.meaning.specs.Examples.{Examples-hold};
 
@@ -19,9 +19,23 @@ pub fn never_stuck() -> u8
     0
 }
 
+// The frame memory never refuses it anything by 27 or 28.
+pub fn frames_serve() -> u8
+    ensures { λ _. ⌜ Frames-serve ⌝ }
+{
+    0
+}
+
 // A run can be cut anywhere.
 pub fn runs_cut() -> u8
     ensures { λ _. ⌜ Runs-cut ⌝ }
+{
+    0
+}
+
+// No run has more than 1,000,000 steps.
+pub fn runs_end() -> u8
+    ensures { λ _. ⌜ Runs-end ⌝ }
 {
     0
 }
