@@ -1,7 +1,7 @@
 -- The reader of the grammar: what is left to read, and what a line leaves as it was.
 use Prim.Native.Nat.{ℕ, _+_, _-_, _≤_, _<_, max}
 use mathlib.Core.Path.{_≡_}
-use mathlib.Core.Bool.{Bool, true, false}
+use mathlib.Core.Bool.{Bool, true, false, cond}
 use lib.ListN.{length}
 use denote.Ref.{now}
 use Rattle.std.specs.declared.option.Option.{Option}
@@ -10,6 +10,7 @@ use Rattle.std.specs.declared.result.Result.{Result}
 use Rattle.std.specs.declared.result.Result.the-variants.{Ok, Err}
 use Rattle.lang.specs.declared.word.Kind.{Kind}
 use Rattle.lang.specs.Kinds.{sameKind}
+use Rattle.lang.specs.declared.refusal.Refusal.the-variants.{Unexpected, NestTooDeep}
 use Rattle.lang.specs.declared.refusal.Refused.{Refused}
 use Rattle.reader.specs.declared.words.Word.{Word}
 use Rattle.reader.specs.declared.words.Words.{Words}
@@ -25,10 +26,19 @@ abbrev pub nextIs : Option Word → Kind → Bool
 nextIs None k = false
 nextIs (Some w) k = sameKind (w .kind) k
 
+-- whether a line can begin with the word looked at
+abbrev pub begun : (Kind → Bool) → Option Word → Bool
+begun t None = false
+begun t (Some w) = t (w .kind)
+
 -- the place of a word, or n where there is none
 abbrev pub placeOr : Option Word → ℕ → ℕ
 placeOr None n = n
 placeOr (Some w) n = w .place
+
+-- the place of the word looked at, or the text's length at its end
+abbrev pub hereOf : Reader → ℕ
+hereOf r = placeOr (r .word) (length (now (r .words .text)))
 
 -- the bytes that are left, and one for the word looked at
 unfoldable pub left : Words → Option Word → ℕ
@@ -72,6 +82,7 @@ abbrev pub Lists : {X : Type 0} → Reader → Reader → Result X Refused → T
 Lists a b (Ok x) = Went a b
 Lists a b (Err e) = Unit {0}
 
-abbrev pub Enters : {X : Type 0} → Reader → Reader → Result X Refused → Type 0
-Enters a b (Ok x) = Entered a b
-Enters a b (Err e) = Unit {0}
+-- a line is entered where it can begin so and fewer than 64 are entered; else 7, or 8, at the word looked at
+abbrev pub Entering : Bool → Reader → Reader → Result (Unit {0}) Refused → Type 0
+Entering t a b (Ok x) = (t ≡ true) × (a .nest < 64) × Entered a b
+Entering t a b (Err e) = cond t ((64 ≤ a .nest) × (e ≡ record { why = NestTooDeep; place = hereOf a })) (e ≡ record { why = Unexpected; place = hereOf a })

@@ -11,9 +11,9 @@ pub struct Reader<'t> {
 }
 
 pub mod begins;
-pub mod look;
 pub mod build;
-pub mod expressions;
-pub mod operators;
-pub mod declarations;
 pub mod commands;
+pub mod declarations;
+pub mod expressions;
+pub mod look;
+pub mod operators;

@@ -1,8 +1,8 @@
 // From a text to its tree: words, grammar, and the table of nodes.
+mod grammar;
 pub mod node;
+mod number;
+pub mod reading;
+mod short;
 pub mod tree;
 pub mod words;
-mod number;
-mod short;
-mod grammar;
-pub mod reading;

@@ -63,7 +63,10 @@ pub struct Node {
 
 pub const NO_NAME: Name = Name { bytes: [0; 16] };
 
-pub const NO_PARAM: Param = Param { name: NO_NAME, at: 0 };
+pub const NO_PARAM: Param = Param {
+    name: NO_NAME,
+    at: 0,
+};
 
 pub const NO_INFO: Info = Info {
     label: Label::Number(0),
@@ -78,4 +81,7 @@ pub const NO_INFO: Info = Info {
 };
 
 // The zero record.
-pub const BLANK: Node = Node { info: NO_INFO, start: 0 };
+pub const BLANK: Node = Node {
+    info: NO_INFO,
+    start: 0,
+};

@@ -2,13 +2,13 @@ ghost use mathlib.Core.Path.{_≡_};
 ghost use Rattle.reader.specs.Nodes.{nodeRoom};
 ghost use Rattle.reader.specs.Looking.{Kept};
 ghost use Rattle.reader.specs.Reads.{Read};
+use crate::grammar::Reader;
+use crate::tree::Tree;
+use crate::tree::calls::MOST_NODES;
+use crate::words::Words;
+use crate::words::calls::check_words;
 use lang::refusal::Refusal;
 use lang::refusal::Refused;
-use crate::grammar::Reader;
-use crate::tree::calls::MOST_NODES;
-use crate::tree::Tree;
-use crate::words::calls::check_words;
-use crate::words::Words;
 
 // Reads the words of a text as a rule, one command, into the table.
 fn read_rule(text: &[u8], tree: &mut Tree) -> Result<(), Refused>
@@ -16,7 +16,11 @@ fn read_rule(text: &[u8], tree: &mut Tree) -> Result<(), Refused>
 {
     let mut words = Words::over(text);
     let word = words.next()?;
-    let mut reader = Reader { words, word, nest: 0 };
+    let mut reader = Reader {
+        words,
+        word,
+        nest: 0,
+    };
     reader.rule(tree)
 }
 
@@ -31,7 +35,10 @@ pub fn read(text: &[u8], tree: &mut Tree) -> Result<(), Refused>
     check_words(text)?;
     read_rule(text, tree)?;
     if tree.len() > MOST_NODES {
-        return Err(Refused { why: Refusal::TooManyNodes, place: 0 });
+        return Err(Refused {
+            why: Refusal::TooManyNodes,
+            place: 0,
+        });
     }
     Ok(())
 }

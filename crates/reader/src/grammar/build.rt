@@ -1,9 +1,9 @@
 ghost use Rattle.reader.specs.Looking.{Kept};
 use crate::node::Info;
 use crate::node::Label;
-use crate::node::Node;
 use crate::node::NO_INFO;
 use crate::node::NO_PARAM;
+use crate::node::Node;
 use crate::node::Param;
 use crate::short::short;
 use crate::tree::Tree;
@@ -18,7 +18,10 @@ pub struct Params {
 impl Params {
     // No parameter.
     pub fn none() -> Params {
-        Params { first: [NO_PARAM; 9], count: 0 }
+        Params {
+            first: [NO_PARAM; 9],
+            count: 0,
+        }
     }
 
     // One parameter more; past the ninth it is only counted.
@@ -33,19 +36,32 @@ impl Params {
 
 // A construct of a label at a place.
 pub fn plain(label: Label, place: u16) -> Info {
-    Info { label, place, ..NO_INFO }
+    Info {
+        label,
+        place,
+        ..NO_INFO
+    }
 }
 
 // A construct with a name.
 pub fn named(label: Label, place: u16, name: Param) -> Info {
-    Info { label, place, name: name.name, at: name.at, ..NO_INFO }
+    Info {
+        label,
+        place,
+        name: name.name,
+        at: name.at,
+        ..NO_INFO
+    }
 }
 
 // Ends a node whose own nodes begin at a number.
 pub fn push(tree: &mut Tree, info: Info, start: usize)
     ensures { λ _. ⌜ Kept (now (tree .entry)) (now (tree .exit)) ⌝ }
 {
-    tree.push(Node { info, start: short(start) });
+    tree.push(Node {
+        info,
+        start: short(start),
+    });
 }
 
 // Ends a node that has no nodes of its own.
@@ -57,7 +73,15 @@ pub fn push_leaf(tree: &mut Tree, info: Info)
 }
 
 // Ends the node of a routine.
-pub fn push_routine(tree: &mut Tree, label: Label, place: u16, name: Param, params: Params, slot: u16, start: usize)
+pub fn push_routine(
+    tree: &mut Tree,
+    label: Label,
+    place: u16,
+    name: Param,
+    params: Params,
+    slot: u16,
+    start: usize,
+)
     ensures { λ _. ⌜ Kept (now (tree .entry)) (now (tree .exit)) ⌝ }
 {
     let mut info = named(label, place, name);
@@ -69,7 +93,14 @@ pub fn push_routine(tree: &mut Tree, label: Label, place: u16, name: Param, para
 }
 
 // Ends the node of a block whose routines and commands begin at these numbers.
-pub fn push_block(tree: &mut Tree, place: u16, count: u16, routines: usize, commands: usize, start: usize)
+pub fn push_block(
+    tree: &mut Tree,
+    place: u16,
+    count: u16,
+    routines: usize,
+    commands: usize,
+    start: usize,
+)
     ensures { λ _. ⌜ Kept (now (tree .entry)) (now (tree .exit)) ⌝ }
 {
     let end = tree.len();

@@ -1,15 +1,15 @@
 ghost use mathlib.Core.Path.{_≡_};
 ghost use Rattle.reader.specs.Looking.{Gone, Lists, Kept};
-use lang::refusal::Refused;
-use lang::word::Kind;
+use crate::grammar::Reader;
 use crate::grammar::build::named;
 use crate::grammar::build::plain;
 use crate::grammar::build::push;
 use crate::grammar::build::push_block;
 use crate::grammar::build::push_routine;
-use crate::grammar::Reader;
-use crate::tree::Tree;
 use crate::node::Label;
+use crate::tree::Tree;
+use lang::refusal::Refused;
+use lang::word::Kind;
 
 impl<'t> Reader<'t> {
     // A rule: one command, and the end of the text.
@@ -17,7 +17,11 @@ impl<'t> Reader<'t> {
         ensures { λ _. ⌜ Kept (now (tree .entry)) (now (tree .exit)) ⌝ }
     {
         self.command(tree)?;
-        if self.ended() { Ok(()) } else { Err(self.unexpected()) }
+        if self.ended() {
+            Ok(())
+        } else {
+            Err(self.unexpected())
+        }
     }
 
     // command: block | assignment | call | if | while

@@ -1,13 +1,13 @@
 ghost use mathlib.Core.Path.{_≡_};
 ghost use Rattle.reader.specs.Looking.{Gone, Lists, Kept};
-use lang::refusal::Refused;
-use lang::word::Kind;
+use crate::grammar::Reader;
+use crate::grammar::build::Params;
 use crate::grammar::build::named;
 use crate::grammar::build::push;
-use crate::grammar::build::Params;
-use crate::grammar::Reader;
-use crate::tree::Tree;
 use crate::node::Label;
+use crate::tree::Tree;
+use lang::refusal::Refused;
+use lang::word::Kind;
 
 impl<'t> Reader<'t> {
     // datum..: how many there are.

@@ -1,17 +1,17 @@
 ghost use mathlib.Core.Path.{_≡_};
 ghost use Rattle.reader.specs.Looking.{Gone, Lists, Kept};
-use lang::refusal::Refusal;
-use lang::refusal::Refused;
-use lang::word::Kind;
+use crate::grammar::Reader;
 use crate::grammar::build::named;
 use crate::grammar::build::plain;
 use crate::grammar::build::push;
 use crate::grammar::build::push_leaf;
-use crate::grammar::Reader;
-use crate::tree::Tree;
 use crate::node::Label;
 use crate::node::Param;
 use crate::number::value;
+use crate::tree::Tree;
+use lang::refusal::Refusal;
+use lang::refusal::Refused;
+use lang::word::Kind;
 
 impl<'t> Reader<'t> {
     // expr: 'if' expr 'then' expr 'else' expr | 'let' name '=' expr 'in' expr | either
@@ -141,7 +141,10 @@ impl<'t> Reader<'t> {
                 if word.kind.is(Kind::Number) {
                     return match value(word.bytes) {
                         Some(number) => self.leaf(tree, Label::Number(number)),
-                        None => Err(Refused { why: Refusal::NumberTooLarge, place: word.place }),
+                        None => Err(Refused {
+                            why: Refusal::NumberTooLarge,
+                            place: word.place,
+                        }),
                     };
                 }
                 Err(self.unexpected())
@@ -186,7 +189,14 @@ impl<'t> Reader<'t> {
     }
 
     // '(' args ')' of a name that is called
-    pub fn call(&mut self, tree: &mut Tree, label: Label, place: u16, name: Param, start: usize) -> Result<(), Refused>
+    pub fn call(
+        &mut self,
+        tree: &mut Tree,
+        label: Label,
+        place: u16,
+        name: Param,
+        start: usize,
+    ) -> Result<(), Refused>
         ensures read { λ r. ⌜ Gone (now (self .entry)) (now (self .exit)) r ⌝ }
         ensures kept { λ _. ⌜ Kept (now (tree .entry)) (now (tree .exit)) ⌝ }
     {

@@ -1,16 +1,18 @@
 ghost use mathlib.Core.Path.{_≡_};
 ghost use mathlib.Core.Bool.{not};
 ghost use Rattle.std.specs.Options.{isSome};
-ghost use Rattle.reader.specs.Looking.{Gone, Enters, kindOf, nextIs, placeOr, Left};
+ghost use Rattle.reader.specs.Looking.{Gone, Left, kindOf, nextIs, begun, hereOf, Entering};
+ghost use Rattle.reader.specs.Begins.{beginsCommand, beginsPrefix, beginsExpr};
+ghost use Rattle.lang.specs.declared.refusal.Refusal.the-variants.{Unexpected};
+use crate::grammar::Reader;
+use crate::grammar::begins::begins_command;
+use crate::grammar::begins::begins_expr;
+use crate::grammar::begins::begins_prefix;
+use crate::node::Param;
 use lang::name::Name;
 use lang::refusal::Refusal;
 use lang::refusal::Refused;
 use lang::word::Kind;
-use crate::grammar::begins::begins_command;
-use crate::grammar::begins::begins_expr;
-use crate::grammar::begins::begins_prefix;
-use crate::grammar::Reader;
-use crate::node::Param;
 
 // The most lines command, expr and prefix that may be entered and not left.
 const MOST_NEST: u8 = 64;
@@ -47,7 +49,9 @@ impl<'t> Reader<'t> {
     }
 
     // The place of the word looked at, or the text's length at its end.
-    pub fn here(&self) -> u16 {
+    pub fn here(&self) -> u16
+        ensures { λ r. ⌜ r ≡ hereOf (now (self .entry)) ⌝ }
+    {
         match self.word {
             Some(word) => word.place,
             None => self.words.end(),
@@ -55,8 +59,13 @@ impl<'t> Reader<'t> {
     }
 
     // The refusal of the word looked at: no text can go on with it.
-    pub fn unexpected(&self) -> Refused {
-        Refused { why: Refusal::Unexpected, place: self.here() }
+    pub fn unexpected(&self) -> Refused
+        ensures { λ r. ⌜ r ≡ record { why = Unexpected; place = hereOf (now (self .entry)) } ⌝ }
+    {
+        Refused {
+            why: Refusal::Unexpected,
+            place: self.here(),
+        }
     }
 
     // Passes over the word looked at, which has to stand here, and looks at the next.
@@ -88,7 +97,10 @@ impl<'t> Reader<'t> {
         match self.word {
             Some(word) => {
                 if word.kind.is(Kind::Name) {
-                    let param = Param { name: Name::of(word.bytes), at: word.place };
+                    let param = Param {
+                        name: Name::of(word.bytes),
+                        at: word.place,
+                    };
                     self.advance()?;
                     return Ok(param);
                 }
@@ -100,13 +112,16 @@ impl<'t> Reader<'t> {
 
     // Enters a line whose first word stands here; 7 where the line cannot begin so, 8 where the nest is full.
     fn enter(&mut self, begins: bool) -> Result<(), Refused>
-        ensures { λ r. ⌜ Enters (now (self .entry)) (now (self .exit)) r ⌝ }
+        ensures { λ r. ⌜ Entering begins (now (self .entry)) (now (self .exit)) r ⌝ }
     {
         if !begins {
             return Err(self.unexpected());
         }
         if self.nest >= MOST_NEST {
-            return Err(Refused { why: Refusal::NestTooDeep, place: self.here() });
+            return Err(Refused {
+                why: Refusal::NestTooDeep,
+                place: self.here(),
+            });
         }
         self.nest += 1;
         Ok(())
@@ -114,7 +129,7 @@ impl<'t> Reader<'t> {
 
     // Enters the line command.
     pub fn enter_command(&mut self) -> Result<(), Refused>
-        ensures { λ r. ⌜ Enters (now (self .entry)) (now (self .exit)) r ⌝ }
+        ensures { λ r. ⌜ Entering (begun beginsCommand (now (self .entry) .word)) (now (self .entry)) (now (self .exit)) r ⌝ }
     {
         let begins = self.command_here();
         self.enter(begins)
@@ -122,7 +137,7 @@ impl<'t> Reader<'t> {
 
     // Enters the line expr.
     pub fn enter_expr(&mut self) -> Result<(), Refused>
-        ensures { λ r. ⌜ Enters (now (self .entry)) (now (self .exit)) r ⌝ }
+        ensures { λ r. ⌜ Entering (begun beginsExpr (now (self .entry) .word)) (now (self .entry)) (now (self .exit)) r ⌝ }
     {
         let begins = match self.kind() {
             Some(kind) => begins_expr(kind),
@@ -133,7 +148,7 @@ impl<'t> Reader<'t> {
 
     // Enters the line prefix.
     pub fn enter_prefix(&mut self) -> Result<(), Refused>
-        ensures { λ r. ⌜ Enters (now (self .entry)) (now (self .exit)) r ⌝ }
+        ensures { λ r. ⌜ Entering (begun beginsPrefix (now (self .entry) .word)) (now (self .entry)) (now (self .exit)) r ⌝ }
     {
         let begins = match self.kind() {
             Some(kind) => begins_prefix(kind),
@@ -152,7 +167,9 @@ impl<'t> Reader<'t> {
     }
 
     // Whether a command begins here.
-    pub fn command_here(&self) -> bool {
+    pub fn command_here(&self) -> bool
+        ensures { λ r. ⌜ r ≡ begun beginsCommand (now (self .entry) .word) ⌝ }
+    {
         match self.kind() {
             Some(kind) => begins_command(kind),
             None => false,

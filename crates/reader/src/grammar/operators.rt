@@ -1,12 +1,12 @@
 ghost use mathlib.Core.Path.{_≡_};
 ghost use Rattle.reader.specs.Looking.{Gone, Kept};
-use lang::refusal::Refused;
-use lang::word::Kind;
+use crate::grammar::Reader;
 use crate::grammar::build::plain;
 use crate::grammar::build::push;
-use crate::grammar::Reader;
-use crate::tree::Tree;
 use crate::node::Label;
+use crate::tree::Tree;
+use lang::refusal::Refused;
+use lang::word::Kind;
 
 // Operators group to the left. An operator's place is that of the first word of its left side, brackets too.
 impl<'t> Reader<'t> {
@@ -60,7 +60,13 @@ impl<'t> Reader<'t> {
     }
 
     // The sign of a comparison and its right side.
-    fn compared(&mut self, tree: &mut Tree, label: Label, place: u16, start: usize) -> Result<(), Refused>
+    fn compared(
+        &mut self,
+        tree: &mut Tree,
+        label: Label,
+        place: u16,
+        start: usize,
+    ) -> Result<(), Refused>
         ensures read { λ r. ⌜ Gone (now (self .entry)) (now (self .exit)) r ⌝ }
         ensures kept { λ _. ⌜ Kept (now (tree .entry)) (now (tree .exit)) ⌝ }
     {

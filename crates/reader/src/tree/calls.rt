@@ -6,10 +6,10 @@ ghost use lib.ListN.{length, getD, replicate};
 ghost use Rattle.std.specs.Results.{Cases as ByOk};
 ghost use Rattle.lang.specs.Refusals.{number};
 ghost use Rattle.reader.specs.Nodes.{blank, nodesOf, nodeRoom, Added};
-use lang::refusal::Refusal;
 use crate::node::BLANK;
 use crate::node::Node;
 use crate::tree::Tree;
+use lang::refusal::Refusal;
 
 // The most nodes of a tree.
 pub const MOST_NODES: usize = 4096;
@@ -38,7 +38,11 @@ impl<'m> Tree<'m> {
     pub fn node(&self, n: usize) -> Node
         ensures { λ r. ⌜ r ≡ getD (nodesOf (now (self .entry))) n blank ⌝ }
     {
-        if n < self.nodes.len() { self.nodes[n] } else { BLANK }
+        if n < self.nodes.len() {
+            self.nodes[n]
+        } else {
+            BLANK
+        }
     }
 
     // One node more. Past the 4,096th only that there are more is kept.

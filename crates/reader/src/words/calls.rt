@@ -5,6 +5,11 @@ ghost use Rattle.lang.specs.Bytes.{class, nameByte, digitByte};
 ghost use Rattle.lang.specs.declared.word.Class.the-variants.{Letter, Digit};
 ghost use Rattle.reader.specs.Words.{run, nameFront, numberFront, front, Inside};
 ghost use Rattle.reader.specs.Lexing.{Next, Begun, Checked};
+use crate::number::value;
+use crate::words::Front;
+use crate::words::MOST_BYTES;
+use crate::words::Word;
+use crate::words::Words;
 use lang::byte::class_of;
 use lang::byte::in_name;
 use lang::byte::in_number;
@@ -13,11 +18,6 @@ use lang::refusal::Refused;
 use lang::reserved::reserved_of;
 use lang::word::Class;
 use lang::word::Kind;
-use crate::number::value;
-use crate::words::Front;
-use crate::words::MOST_BYTES;
-use crate::words::Word;
-use crate::words::Words;
 
 // The most bytes of a name.
 const MOST_NAME: usize = 16;
@@ -100,7 +100,10 @@ impl<'t> Words<'t> {
         ensures { λ r. ⌜ Begun (now (text .entry)) r ⌝ }
     {
         if text.len() > MOST_BYTES {
-            return Words { text: &text[0..MOST_BYTES], at: 0 };
+            return Words {
+                text: &text[0..MOST_BYTES],
+                at: 0,
+            };
         }
         Words { text, at: 0 }
     }
@@ -121,10 +124,17 @@ impl<'t> Words<'t> {
                 Front::Takes(kind, len) => {
                     let bytes = &self.text[place..place + len];
                     self.at = place + len;
-                    return Ok(Some(Word { kind, bytes, place: place as u16 }));
+                    return Ok(Some(Word {
+                        kind,
+                        bytes,
+                        place: place as u16,
+                    }));
                 }
                 Front::Wrong(why) => {
-                    return Err(Refused { why, place: place as u16 });
+                    return Err(Refused {
+                        why,
+                        place: place as u16,
+                    });
                 }
             }
         }
@@ -144,7 +154,10 @@ pub fn check_words(text: &[u8]) -> Result<(), Refused>
     ensures { λ r. ⌜ Checked (now (text .entry)) r ⌝ }
 {
     if text.len() > MOST_BYTES {
-        return Err(Refused { why: Refusal::TextTooLong, place: 0 });
+        return Err(Refused {
+            why: Refusal::TextTooLong,
+            place: 0,
+        });
     }
     let mut words = Words::over(text);
     while let Some(_) = words.next()? {}

@@ -20,9 +20,9 @@ loop-d-again c =
     let n = c .loop-d .sum in
     let m = c .if-sum-gt-MOST .sum in
     let s : m ≡ cut (n * 10 + (getD ds i 0 - 48)) = elim (c .if-sum-gt-MOST .came) [
-        then-sum-gt-MOST w ↦ omega (arith, w .sum-is)
+      | then-sum-gt-MOST w ↦ omega (arith, w .sum-is)
       | else-sum-gt-MOST w ↦ omega (arith, w .sum-is)
-      ] in
+    ] in
     (omega (arith, s), cut-more ds i n m (c .loop-d-test .taken) s ∙ c .loop-d .inv .1)
 
 pub returns-then-sum-gt-MOST-2 : need.returns-then-sum-gt-MOST-2

@@ -31,9 +31,9 @@ returns-then-text-at-eq61 c = record { front = by-colon _ _ (c .pre) true (c .in
 pub returns-else-at-text : need.returns-else-at-text
 returns-else-at-text c = record {
   front = by-colon _ _ (c .pre) false (c .in-Colon .ensures tt) (elim (c .else-at-text .came) [
-      else-at-text·by·then-at-text·else-text-at-eq61 w ↦ sym (equals-not _ _ (w .if-at-text .taken) (w .if-text-at-eq61 .left))
+    | else-at-text·by·then-at-text·else-text-at-eq61 w ↦ sym (equals-not _ _ (w .if-at-text .taken) (w .if-text-at-eq61 .left))
     | else-at-text·by·else-at-text w ↦ sym (equals-none _ _ (w .if-at-text .left))
-    ]);
+  ]);
   inside = tt;
 }
 

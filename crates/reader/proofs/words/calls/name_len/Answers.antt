@@ -11,6 +11,6 @@ loop-n-again c = let m = run-more nameByte _ _ (c .loop-n-test .taken) (sym (c .
 pub returns : need.returns
 returns c =
     elim (c .loop-n-test .came) [
-      then-loop-n-test·else-in-name w ↦ let m = run-stops nameByte _ _ (w .loop-n-test .taken) (sym (w .if-in-name .ensures tt)) in omega (arith, m)
-    | else-loop-n-test w ↦ let m = run-none nameByte _ _ (w .loop-n-test .left) in omega (arith, m)
+      | then-loop-n-test·else-in-name w ↦ let m = run-stops nameByte _ _ (w .loop-n-test .taken) (sym (w .if-in-name .ensures tt)) in omega (arith, m)
+      | else-loop-n-test w ↦ let m = run-none nameByte _ _ (w .loop-n-test .left) in omega (arith, m)
     ]

@@ -11,6 +11,6 @@ loop-n-again c = let m = run-more digitByte _ _ (c .loop-n-test .taken) (sym (c 
 pub returns : need.returns
 returns c =
     elim (c .loop-n-test .came) [
-      then-loop-n-test·else-in-number w ↦ let m = run-stops digitByte _ _ (w .loop-n-test .taken) (sym (w .if-in-number .ensures tt)) in omega (arith, m)
-    | else-loop-n-test w ↦ let m = run-none digitByte _ _ (w .loop-n-test .left) in omega (arith, m)
+      | then-loop-n-test·else-in-number w ↦ let m = run-stops digitByte _ _ (w .loop-n-test .taken) (sym (w .if-in-number .ensures tt)) in omega (arith, m)
+      | else-loop-n-test w ↦ let m = run-none digitByte _ _ (w .loop-n-test .left) in omega (arith, m)
     ]
