@@ -10,3 +10,4 @@ pub mod code;
 pub mod word;
 pub mod byte;
 pub mod reserved;
+pub mod narrow;

@@ -3,6 +3,5 @@ mod grammar;
 pub mod node;
 mod number;
 pub mod reading;
-mod short;
 pub mod tree;
 pub mod words;

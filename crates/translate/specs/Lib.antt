@@ -1,1 +1,3 @@
 pub mod Views
+pub mod Rooms
+pub mod Loads

@@ -1,7 +1,6 @@
 // From a tree to code: the name check, and the translator that takes only what the check hands out.
 pub mod record;
 pub mod view;
-mod narrow;
 mod lookup;
 mod violation;
 mod scope;

@@ -1,3 +1,5 @@
+ghost use mathlib.Core.Path.{_≡_};
+ghost use Rattle.lang.specs.Stacks.{room};
 use lang::instruction::Binding;
 use lang::name::Name;
 use lang::refusal::Refusal;
@@ -7,8 +9,8 @@ use lang::sheet::Sheet;
 use lang::stack::Stack;
 use reader::tree::Tree;
 use crate::lookup::in_frame;
-use crate::narrow::byte;
-use crate::narrow::short;
+use lang::narrow::byte;
+use lang::narrow::short;
 use crate::record::Record;
 use crate::record::Sort;
 use crate::view::calls::routine_below;
@@ -18,7 +20,9 @@ pub const MOST_SLOTS: usize = 64;
 pub const MOST_PARAMS: usize = 8;
 
 // The sheet's names: its frame is the outermost.
-pub fn push_sheet(sheet: &Sheet, names: &mut Stack<Record>) {
+pub fn push_sheet(sheet: &Sheet, names: &mut Stack<Record>)
+    ensures { λ _. ⌜ room (now (names .exit)) ≡ room (now (names .entry)) ⌝ }
+{
     for i in 0..sheet.len() {
         if let Some(entry) = sheet.entry(i) {
             let sort = match entry.mark {
@@ -32,7 +36,9 @@ pub fn push_sheet(sheet: &Sheet, names: &mut Stack<Record>) {
 }
 
 // A constant of a let.
-pub fn push_let(names: &mut Stack<Record>, name: Name, level: usize) {
+pub fn push_let(names: &mut Stack<Record>, name: Name, level: usize)
+    ensures { λ _. ⌜ room (now (names .exit)) ≡ room (now (names .entry)) ⌝ }
+{
     let _ = names.push(Record::Known { name, sort: Sort::Constant, level: byte(level), offset: 0 });
 }
 
@@ -55,7 +61,9 @@ pub fn declare(
     most: usize,
     at: u16,
     least: Option<Refused>,
-) -> Option<Refused> {
+) -> Option<Refused>
+    ensures { λ _. ⌜ room (now (names .exit)) ≡ room (now (names .entry)) ⌝ }
+{
     if slot > most {
         return least;
     }
@@ -80,7 +88,9 @@ pub fn declare_routines(
     level: usize,
     names: &mut Stack<Record>,
     least: Option<Refused>,
-) -> Option<Refused> {
+) -> Option<Refused>
+    ensures { λ _. ⌜ room (now (names .exit)) ≡ room (now (names .entry)) ⌝ }
+{
     if start >= end {
         return least;
     }
@@ -94,7 +104,9 @@ pub fn declare_routines(
 
 // In a block with too many names, one record stands for all its routines: those past the most are called
 // from earlier bodies too.
-pub fn push_rest(names: &mut Stack<Record>, count: u16, level: usize, start: usize, end: usize) {
+pub fn push_rest(names: &mut Stack<Record>, count: u16, level: usize, start: usize, end: usize)
+    ensures { λ _. ⌜ room (now (names .exit)) ≡ room (now (names .entry)) ⌝ }
+{
     if count as usize > MOST_SLOTS {
         let _ = names.push(Record::Rest { level: byte(level), start: short(start), end: short(end) });
     }
@@ -108,7 +120,9 @@ pub fn push_params(
     level: usize,
     names: &mut Stack<Record>,
     least: Option<Refused>,
-) -> Option<Refused> {
+) -> Option<Refused>
+    ensures { λ _. ⌜ room (now (names .exit)) ≡ room (now (names .entry)) ⌝ }
+{
     let params = tree.node(node).info.params;
     let mut least = least;
     for i in 0..9 {

@@ -5,7 +5,7 @@ use crate::node::NO_INFO;
 use crate::node::NO_PARAM;
 use crate::node::Node;
 use crate::node::Param;
-use crate::short::short;
+use lang::narrow::short;
 use crate::tree::Tree;
 
 // The parameters of a routine: the first nine, and how many there are.

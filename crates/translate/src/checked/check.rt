@@ -1,3 +1,5 @@
+ghost use mathlib.Core.Path.{_≡_};
+ghost use Rattle.lang.specs.Stacks.{room};
 use lang::refusal::Refusal;
 use lang::refusal::Refused;
 use lang::sheet::Sheet;
@@ -32,7 +34,9 @@ use crate::violation::note;
 const MOST_FRAMES: usize = 16;
 
 // The tree with its names checked over the sheet, or the violation with the earliest place, then the lowest number.
-pub fn check<'a, 'm>(tree: &'a Tree<'m>, sheet: &Sheet, names: &mut Stack<Record>) -> Result<Checked<'a, 'm>, Refused> {
+pub fn check<'a, 'm>(tree: &'a Tree<'m>, sheet: &Sheet, names: &mut Stack<Record>) -> Result<Checked<'a, 'm>, Refused>
+    ensures { λ _. ⌜ room (now (names .exit)) ≡ room (now (names .entry)) ⌝ }
+{
     names.clear();
     push_sheet(sheet, names);
     let least = match last(tree, tree.len()) {
@@ -48,7 +52,9 @@ pub fn check<'a, 'm>(tree: &'a Tree<'m>, sheet: &Sheet, names: &mut Stack<Record
 }
 
 // The names of the expression at a node, where `depth` frames stand.
-fn check_expr(tree: &Tree, n: usize, depth: usize, names: &mut Stack<Record>, least: Option<Refused>) -> Option<Refused> {
+fn check_expr(tree: &Tree, n: usize, depth: usize, names: &mut Stack<Record>, least: Option<Refused>) -> Option<Refused>
+    ensures { λ _. ⌜ room (now (names .exit)) ≡ room (now (names .entry)) ⌝ }
+{
     match expr_at(tree, n) {
         Expr::Literal { .. } => least,
         Expr::Read { place, name } => as_value(look_up(tree, names, name), place, least),
@@ -83,7 +89,9 @@ fn check_expr(tree: &Tree, n: usize, depth: usize, names: &mut Stack<Record>, le
 }
 
 // The args among the nodes from `start` up to `end`.
-fn check_args(tree: &Tree, start: usize, end: usize, depth: usize, names: &mut Stack<Record>, least: Option<Refused>) -> Option<Refused> {
+fn check_args(tree: &Tree, start: usize, end: usize, depth: usize, names: &mut Stack<Record>, least: Option<Refused>) -> Option<Refused>
+    ensures { λ _. ⌜ room (now (names .exit)) ≡ room (now (names .entry)) ⌝ }
+{
     if start >= end {
         return least;
     }
@@ -95,7 +103,9 @@ fn check_args(tree: &Tree, start: usize, end: usize, depth: usize, names: &mut S
 }
 
 // The data among the nodes from `start` up to `end`: each sees those before it, and their names stay.
-fn check_data(tree: &Tree, start: usize, end: usize, depth: usize, names: &mut Stack<Record>, least: Option<Refused>) -> Option<Refused> {
+fn check_data(tree: &Tree, start: usize, end: usize, depth: usize, names: &mut Stack<Record>, least: Option<Refused>) -> Option<Refused>
+    ensures { λ _. ⌜ room (now (names .exit)) ≡ room (now (names .entry)) ⌝ }
+{
     if start >= end {
         return least;
     }
@@ -107,7 +117,9 @@ fn check_data(tree: &Tree, start: usize, end: usize, depth: usize, names: &mut S
     declare(tree, names, d.name, datum_sort(d.binding), depth.saturating_sub(1), d.slot as usize, MOST_SLOTS, d.at, b)
 }
 
-fn check_command(tree: &Tree, n: usize, depth: usize, names: &mut Stack<Record>, least: Option<Refused>) -> Option<Refused> {
+fn check_command(tree: &Tree, n: usize, depth: usize, names: &mut Stack<Record>, least: Option<Refused>) -> Option<Refused>
+    ensures { λ _. ⌜ room (now (names .exit)) ≡ room (now (names .entry)) ⌝ }
+{
     match command_at(tree, n) {
         Command::Assign { place, name, value } => {
             let a = as_variable(look_up(tree, names, name), place, least);
@@ -145,7 +157,9 @@ fn check_command(tree: &Tree, n: usize, depth: usize, names: &mut Stack<Record>,
 }
 
 // The commands among the nodes from `start` up to `end`.
-fn check_commands(tree: &Tree, start: usize, end: usize, depth: usize, names: &mut Stack<Record>, least: Option<Refused>) -> Option<Refused> {
+fn check_commands(tree: &Tree, start: usize, end: usize, depth: usize, names: &mut Stack<Record>, least: Option<Refused>) -> Option<Refused>
+    ensures { λ _. ⌜ room (now (names .exit)) ≡ room (now (names .entry)) ⌝ }
+{
     if start >= end {
         return least;
     }
@@ -157,7 +171,9 @@ fn check_commands(tree: &Tree, start: usize, end: usize, depth: usize, names: &m
 }
 
 // The bodies of the routines among the nodes from `start` up to `end`.
-fn check_routines(tree: &Tree, start: usize, end: usize, depth: usize, names: &mut Stack<Record>, least: Option<Refused>) -> Option<Refused> {
+fn check_routines(tree: &Tree, start: usize, end: usize, depth: usize, names: &mut Stack<Record>, least: Option<Refused>) -> Option<Refused>
+    ensures { λ _. ⌜ room (now (names .exit)) ≡ room (now (names .entry)) ⌝ }
+{
     if start >= end {
         return least;
     }
@@ -172,7 +188,9 @@ fn check_routines(tree: &Tree, start: usize, end: usize, depth: usize, names: &m
 }
 
 // A routine's parameters and its body.
-fn check_body(tree: &Tree, r: Routine, depth: usize, names: &mut Stack<Record>, least: Option<Refused>) -> Option<Refused> {
+fn check_body(tree: &Tree, r: Routine, depth: usize, names: &mut Stack<Record>, least: Option<Refused>) -> Option<Refused>
+    ensures { λ _. ⌜ room (now (names .exit)) ≡ room (now (names .entry)) ⌝ }
+{
     let old = names.len();
     let a = push_params(tree, r.node, r.count, depth, names, least);
     let b = if r.function {

@@ -1,3 +1,8 @@
+ghost use mathlib.Core.Path.{_≡_};
+ghost use lib.ListN.{length};
+ghost use Rattle.lang.specs.Codes.{instructionsOf};
+ghost use Rattle.lang.specs.Stacks.{room};
+ghost use Rattle.translate.specs.Rooms.{SameRoom};
 use lang::code::Code;
 use lang::instruction::Binding;
 use lang::instruction::Instruction;
@@ -7,8 +12,8 @@ use lang::stack::Stack;
 use reader::tree::Tree;
 use crate::checked::Checked;
 use crate::lookup::look_up;
-use crate::narrow::byte;
-use crate::narrow::short;
+use lang::narrow::byte;
+use lang::narrow::short;
 use crate::record::Record;
 use crate::scope::MOST_SLOTS;
 use crate::scope::datum_sort;
@@ -28,7 +33,11 @@ use crate::view::calls::last;
 use crate::view::calls::routine_below;
 
 // Writes the code of a checked tree from position 0, and answers its length.
-pub fn translate(checked: Checked, sheet: &Sheet, names: &mut Stack<Record>, code: &mut Code) -> usize {
+pub fn translate(checked: Checked, sheet: &Sheet, names: &mut Stack<Record>, code: &mut Code) -> usize
+    ensures names { λ _. ⌜ room (now (names .exit)) ≡ room (now (names .entry)) ⌝ }
+    ensures code { λ _. ⌜ SameRoom (now (code .entry)) (now (code .exit)) ⌝ }
+    ensures length { λ r. ⌜ r ≡ length (instructionsOf (now (code .exit))) ⌝ }
+{
     names.clear();
     push_sheet(sheet, names);
     code.clear();
@@ -48,7 +57,9 @@ fn pair(tree: &Tree, names: &Stack<Record>, name: Name, depth: usize) -> (u8, u8
 }
 
 // One instruction more; a checked tree has at most three for each node, so there is room.
-fn emit(code: &mut Code, instruction: Instruction, place: u16) {
+fn emit(code: &mut Code, instruction: Instruction, place: u16)
+    ensures { λ _. ⌜ SameRoom (now (code .entry)) (now (code .exit)) ⌝ }
+{
     let _ = code.emit(instruction, place);
 }
 
@@ -57,7 +68,10 @@ fn distance(code: &Code, from: usize) -> u16 {
     short(code.len().saturating_sub(from))
 }
 
-fn write_expr(tree: &Tree, n: usize, depth: usize, names: &mut Stack<Record>, code: &mut Code) {
+fn write_expr(tree: &Tree, n: usize, depth: usize, names: &mut Stack<Record>, code: &mut Code)
+    ensures names { λ _. ⌜ room (now (names .exit)) ≡ room (now (names .entry)) ⌝ }
+    ensures code { λ _. ⌜ SameRoom (now (code .entry)) (now (code .exit)) ⌝ }
+{
     match expr_at(tree, n) {
         Expr::Literal { place, value } => emit(code, Instruction::Push(value), place),
         Expr::Read { place, name } => {
@@ -106,7 +120,10 @@ fn write_expr(tree: &Tree, n: usize, depth: usize, names: &mut Stack<Record>, co
     }
 }
 
-fn write_args(tree: &Tree, start: usize, end: usize, depth: usize, names: &mut Stack<Record>, code: &mut Code) {
+fn write_args(tree: &Tree, start: usize, end: usize, depth: usize, names: &mut Stack<Record>, code: &mut Code)
+    ensures names { λ _. ⌜ room (now (names .exit)) ≡ room (now (names .entry)) ⌝ }
+    ensures code { λ _. ⌜ SameRoom (now (code .entry)) (now (code .exit)) ⌝ }
+{
     if start >= end {
         return;
     }
@@ -118,7 +135,10 @@ fn write_args(tree: &Tree, start: usize, end: usize, depth: usize, names: &mut S
 }
 
 // The data among the nodes from `start` up to `end`; their names stay.
-fn write_data(tree: &Tree, start: usize, end: usize, depth: usize, names: &mut Stack<Record>, code: &mut Code) {
+fn write_data(tree: &Tree, start: usize, end: usize, depth: usize, names: &mut Stack<Record>, code: &mut Code)
+    ensures names { λ _. ⌜ room (now (names .exit)) ≡ room (now (names .entry)) ⌝ }
+    ensures code { λ _. ⌜ SameRoom (now (code .entry)) (now (code .exit)) ⌝ }
+{
     if start >= end {
         return;
     }
@@ -129,14 +149,20 @@ fn write_data(tree: &Tree, start: usize, end: usize, depth: usize, names: &mut S
     write_datum(tree, d, depth, names, code);
 }
 
-fn write_datum(tree: &Tree, d: Datum, depth: usize, names: &mut Stack<Record>, code: &mut Code) {
+fn write_datum(tree: &Tree, d: Datum, depth: usize, names: &mut Stack<Record>, code: &mut Code)
+    ensures names { λ _. ⌜ room (now (names .exit)) ≡ room (now (names .entry)) ⌝ }
+    ensures code { λ _. ⌜ SameRoom (now (code .entry)) (now (code .exit)) ⌝ }
+{
     write_expr(tree, d.value, depth, names, code);
     emit(code, Instruction::Fill { offset: byte(d.slot as usize), binding: d.binding }, d.place);
     let level = depth.saturating_sub(1);
     let _ = declare(tree, names, d.name, datum_sort(d.binding), level, d.slot as usize, MOST_SLOTS, d.at, None);
 }
 
-fn write_command(tree: &Tree, n: usize, depth: usize, names: &mut Stack<Record>, code: &mut Code) {
+fn write_command(tree: &Tree, n: usize, depth: usize, names: &mut Stack<Record>, code: &mut Code)
+    ensures names { λ _. ⌜ room (now (names .exit)) ≡ room (now (names .entry)) ⌝ }
+    ensures code { λ _. ⌜ SameRoom (now (code .entry)) (now (code .exit)) ⌝ }
+{
     match command_at(tree, n) {
         Command::Assign { place, name, value } => {
             write_expr(tree, value, depth, names, code);
@@ -188,7 +214,10 @@ fn write_command(tree: &Tree, n: usize, depth: usize, names: &mut Stack<Record>,
     }
 }
 
-fn write_commands(tree: &Tree, start: usize, end: usize, depth: usize, names: &mut Stack<Record>, code: &mut Code) {
+fn write_commands(tree: &Tree, start: usize, end: usize, depth: usize, names: &mut Stack<Record>, code: &mut Code)
+    ensures names { λ _. ⌜ room (now (names .exit)) ≡ room (now (names .entry)) ⌝ }
+    ensures code { λ _. ⌜ SameRoom (now (code .entry)) (now (code .exit)) ⌝ }
+{
     if start >= end {
         return;
     }
@@ -199,7 +228,10 @@ fn write_commands(tree: &Tree, start: usize, end: usize, depth: usize, names: &m
     write_command(tree, n, depth, names, code);
 }
 
-fn write_routines(tree: &Tree, start: usize, end: usize, depth: usize, names: &mut Stack<Record>, code: &mut Code) {
+fn write_routines(tree: &Tree, start: usize, end: usize, depth: usize, names: &mut Stack<Record>, code: &mut Code)
+    ensures names { λ _. ⌜ room (now (names .exit)) ≡ room (now (names .entry)) ⌝ }
+    ensures code { λ _. ⌜ SameRoom (now (code .entry)) (now (code .exit)) ⌝ }
+{
     if start >= end {
         return;
     }
@@ -217,7 +249,10 @@ fn declares(r: Routine, by: u16) -> Instruction {
     if r.function { Instruction::Fun { offset, by, count } } else { Instruction::Proc { offset, by, count } }
 }
 
-fn write_routine(tree: &Tree, r: Routine, depth: usize, names: &mut Stack<Record>, code: &mut Code) {
+fn write_routine(tree: &Tree, r: Routine, depth: usize, names: &mut Stack<Record>, code: &mut Code)
+    ensures names { λ _. ⌜ room (now (names .exit)) ≡ room (now (names .entry)) ⌝ }
+    ensures code { λ _. ⌜ SameRoom (now (code .entry)) (now (code .exit)) ⌝ }
+{
     let at = code.len();
     emit(code, declares(r, 0), r.place);
     let old = names.len();
