@@ -1,5 +1,6 @@
 -- Entries that are told, sought and added.
 use native.Mathlib.Nat.{suc-add}
+use native.Mathlib.Omega.{arith}
 use Prim.Native.Nat.{ℕ, zero, suc, _+_, _<_, _≤_}
 use mathlib.Core.Path.{_≡_, refl, sym, ap, _∙_}
 use mathlib.Core.Bool.{Bool, true, false, cond, _||_}
@@ -17,7 +18,7 @@ use Rattle.lang.specs.declared.sheet.Entry.{Entry}
 use Rattle.lang.specs.declared.sheet.Described.{Described}
 use Rattle.lang.specs.Names.{same}
 use Rattle.lang.specs.Values.{alike}
-use Rattle.lang.specs.Sheets.{named, namedAt, toldAt, toldValue, withValue, sheetAfter, sheetFrom, added, addedTo, entryOf}
+use Rattle.lang.specs.Sheets.{named, namedAt, toldAt, toldValue, withValue, valued, sheetAfter, sheetFrom, added, addedTo, entryOf}
 use Rattle.lang.proofs.Scans.{drop-next}
 
 pub told-some : (es : List Entry) (i : ℕ) (e : Entry) (v : Value) → Some e ≡ nth es i → true ≡ alike (e .value) v → toldValue es i (Some v) ≡ Some (set es i (withValue e v))
@@ -25,6 +26,16 @@ told-some es i e v h a = ap (λ o. toldAt es i o (Some v)) (sym h) ∙ ap (λ b.
 
 pub told-other : (es : List Entry) (i : ℕ) (e : Entry) (v : Value) → Some e ≡ nth es i → false ≡ alike (e .value) v → toldValue es i (Some v) ≡ None
 told-other es i e v h a = ap (λ o. toldAt es i o (Some v)) (sym h) ∙ ap (λ b. cond b (Some (set es i (withValue e v))) None) (sym a)
+
+pub valued-some : (es : List Entry) (i : ℕ) (e : Entry) (v : Value) → Some e ≡ nth es i → set es i (withValue e v) ≡ valued es i v
+valued-some [] i e v h = refl
+valued-some (x ∷ es) zero e v h = let q : e ≡ x = cc in ap (λ y. withValue y v ∷ es) q
+valued-some (x ∷ es) (suc i) e v h = ap (λ r. x ∷ r) (valued-some es i e v h)
+
+pub valued-none : (es : List Entry) (i : ℕ) (v : Value) → None ≡ nth es i → es ≡ valued es i v
+valued-none [] i v h = refl
+valued-none (x ∷ es) zero v h = absurd (let z : _≡_ {A = ℕ} 0 1 = cc in omega arith)
+valued-none (x ∷ es) (suc i) v h = ap (λ r. x ∷ r) (valued-none es i v h)
 
 -- what is left of the entries decides whether one has the name
 pub named-drop : (x : Name) (es : List Entry) (i : ℕ) → named x (drop i es) ≡ (namedAt x (nth es i) || named x (drop (i + 1) es))

@@ -150,6 +150,12 @@ sheetFrom ds = sheetAfter (Some []) ds
 abbrev pub withValue : Entry → Value → Entry
 withValue e v = record { name = e .name; mark = e .mark; value = v }
 
+-- the entries after entry i, if there is one, is given a value of whichever kind
+abbrev pub valued : List Entry → ℕ → Value → List Entry
+valued [] i v = []
+valued (e ∷ es) zero v = withValue e v ∷ es
+valued (e ∷ es) (suc i) v = e ∷ valued es i v
+
 abbrev pub toldAt : List Entry → ℕ → Option Entry → Option Value → Option (List Entry)
 toldAt es i None v = None
 toldAt es i (Some e) None = None

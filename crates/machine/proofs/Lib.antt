@@ -1,3 +1,4 @@
 pub mod Moves
 pub mod Steps
 pub mod Starts
+pub mod Endings

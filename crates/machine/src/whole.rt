@@ -1,3 +1,11 @@
+ghost use mathlib.Core.Path.{_≡_};
+ghost use mathlib.Core.List.{map};
+ghost use Prim.Native.Nat.{_≤_};
+ghost use lib.ListN.{length, take};
+ghost use Rattle.lang.specs.Sheets.{entriesOf};
+ghost use Rattle.meaning.specs.Runs.{sheetFrames};
+ghost use Rattle.machine.specs.Shows.{Ready};
+ghost use Rattle.machine.specs.Whole.{Means, Kin};
 use crate::machine::Machine;
 use crate::machine::runs::MOST_STEPS;
 use crate::outcome::Outcome;
@@ -8,38 +16,39 @@ use lang::refusal::Refusal;
 use lang::sheet::Sheet;
 use lang::value::Value;
 
-// The entries' values go to the front of the table.
-fn starting(sheet: &Sheet, table: &mut [Value; 32]) -> usize {
-    for i in 0..sheet.len() {
+// The entries' values go to the front of the table; how many they are.
+fn starting(sheet: &Sheet, table: &mut [Value; 32]) -> usize
+    ensures values { λ r. ⌜ take r (now (table .exit)) ≡ map (λ e. e .value) (entriesOf (now (sheet .entry))) ⌝ }
+    ensures few { λ r. ⌜ r ≤ 32 ⌝ }
+{
+    let count = sheet.len();
+    for i in 0..count {
         if let Some(entry) = sheet.entry(i) {
-            if i < 32 {
-                table[i] = entry.value;
-            }
+            table[i] = entry.value;
         }
     }
-    sheet.len().min(32)
+    count
 }
 
 // The values that the first frame holds go into the sheet.
-fn take_over<F: BuildFrames + Drop>(machine: &Machine<F>, sheet: &mut Sheet) {
+fn take_over<F: BuildFrames + Drop>(machine: &Machine<F>, sheet: &mut Sheet)
+    ensures { λ _. ⌜ (Ready (F·ReadFrames .sound) (now (machine .entry)) → (fs : _) → Kin (entriesOf (now (sheet .entry))) fs → F·ReadFrames .frames (now (machine .entry) .frames) ≡ sheetFrames fs → entriesOf (now (sheet .exit)) ≡ fs) ⌝ }
+{
     for i in 0..sheet.len() {
         if let Some(value) = machine.entry(i) {
-            // a value never changes its kind
-            let _ = sheet.set(i, value);
+            sheet.overwrite(i, value);
         }
     }
 }
 
 // Runs code over a sheet, to its end or its fault. Done takes over the entries' values; a fault leaves them.
 // No frame stands afterwards.
-pub fn run_over<F: BuildFrames + Drop>(machine: &mut Machine<F>, code: &Code, sheet: &mut Sheet) -> Result<Ran, Refusal> {
+pub fn run_over<F: BuildFrames + Drop>(machine: &mut Machine<F>, code: &Code, sheet: &mut Sheet) -> Result<Ran, Refusal>
+    ensures { λ r. ⌜ Means (F·ReadFrames .sound) (F·ReadFrames .frames) (now (code .entry)) (entriesOf (now (sheet .entry))) (entriesOf (now (sheet .exit))) (now (machine .entry)) (now (machine .exit)) r ⌝ }
+{
     let mut table = [Value::Number(0); 32];
     let count = starting(sheet, &mut table);
     let values: &[Value] = &table;
-    if count > values.len() {
-        // a sheet has 32 entries at most
-        return Err(Refusal::ShortMemory);
-    }
     machine.begin(&values[0..count])?;
     // with all steps done, one more call finds the fault
     let ran = machine.run(code, MOST_STEPS + 1);

@@ -1,13 +1,13 @@
 ghost use mathlib.Core.Path.{_≡_};
 ghost use mathlib.Core.Bool.{cond, true};
-ghost use Prim.Native.Nat.{_<_};
+ghost use Prim.Native.Nat.{_<_, _≤_};
 ghost use lib.ListN.{length, take};
 ghost use Rattle.std.specs.Finite.{nth};
 ghost use Rattle.std.specs.Options.{isSome};
 ghost use Rattle.std.specs.Results.{Cases as ByOk};
 ghost use Rattle.std.specs.declared.option.Option.the-variants.{Some, None};
 ghost use Rattle.lang.specs.Refusals.{number as numbered};
-ghost use Rattle.lang.specs.Sheets.{entriesOf, entryOf, named, namedAt, added, addedTo, sheetFrom, toldValue, told};
+ghost use Rattle.lang.specs.Sheets.{entriesOf, entryOf, named, namedAt, added, addedTo, sheetFrom, toldValue, told, valued};
 use crate::name::Name;
 use crate::refusal::Refusal;
 use crate::sheet::Described;
@@ -39,6 +39,7 @@ impl Sheet {
     pub fn len(&self) -> usize
         ensures value { λ r. ⌜ r ≡ length (entriesOf (now (self .entry))) ⌝ }
         ensures front { λ r. ⌜ take r (now (self .entry) .entries) ≡ entriesOf (now (self .entry)) ⌝ }
+        ensures few { λ r. ⌜ r ≤ 32 ⌝ }
     {
         let table: &[Entry] = &self.entries;
         if self.count < table.len() { self.count } else { table.len() }
@@ -112,7 +113,17 @@ impl Sheet {
         Ok(())
     }
 
-    // The same by a kind and a number, as the host gives them; 19 for a bad kind or value too.
+    // Gives one entry another value, of whichever kind, and changes no other.
+    pub fn overwrite(&mut self, number: usize, value: Value)
+        ensures { λ _. ⌜ entriesOf (now (self .exit)) ≡ valued (entriesOf (now (self .entry))) number value ⌝ }
+    {
+        let Some(entry) = self.entry(number) else {
+            return;
+        };
+        self.entries[number] = Entry { name: entry.name, mark: entry.mark, value };
+    }
+
+    // The same as `set` by a kind and a number, as the host gives them; 19 for a bad kind or value too.
     pub fn tell(&mut self, number: usize, kind: u8, value: i64) -> Result<(), Refusal>
         ensures { λ r. ⌜ ByOk r (λ _. Some (entriesOf (now (self .exit))) ≡ told (entriesOf (now (self .entry))) number kind value) (λ e. (None ≡ told (entriesOf (now (self .entry))) number kind value) × (now (self .exit) ≡ now (self .entry)) × (numbered e ≡ 19)) ⌝ }
     {
