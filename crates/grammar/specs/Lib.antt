@@ -1,0 +1,6 @@
+pub mod Words
+pub mod Grammar
+pub mod Refusals
+pub mod Machine
+pub mod Table
+pub mod Answer
