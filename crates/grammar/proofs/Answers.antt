@@ -6,6 +6,7 @@ use Prim.Native.Nat.{ℕ, zero, suc, _+_, _≤_, _<_}
 use native.Mathlib.Omega.{arith}
 use lib.ListN.{length}
 use Rattle.grammar.specs.Words.{Word}
+use Rattle.lang.specs.declared.refusal.Refusal.the-variants.{Unexpected, NestTooDeep}
 use Rattle.meaning.specs.Tree.{Command}
 use Rattle.grammar.specs.Grammar.{command-line, Text}
 use Rattle.grammar.specs.Refusals.{NoMore, Leaves, TooDeep}
@@ -19,17 +20,17 @@ use Rattle.grammar.proofs.Instance.{ll, follow, keeps, apart-tests, sample, sa
 use Rattle.grammar.proofs.Into.{into}
 use Rattle.grammar.proofs.Outof.{out}
 
-abbrev start : List (Part Row)
+abbrev pub start : List (Part Row)
 start = line (the command-line) ∷ []
 
 abbrev whole : Means Meant start → Command
 whole a = a .0
 
 -- a text, as the table has it
-to-table : {k : ℕ} {ws : List Word} {t : Command} → Text k ws t → D Meant rules k (parts 0 0 start) ws [] (t, tt)
+pub to-table : {k : ℕ} {ws : List Word} {t : Command} → Text k ws t → D Meant rules k (parts 0 0 start) ws [] (t, tt)
 to-table x = a-line (into x) nil
 
-from-table : {k : ℕ} {ws : List Word} {a : Means Meant start} → D Meant rules k (parts 0 0 start) ws [] a → Text k ws (a .0)
+pub from-table : {k : ℕ} {ws : List Word} {a : Means Meant start} → D Meant rules k (parts 0 0 start) ws [] a → Text k ws (a .0)
 from-table {k} (a-line d nil) = out k (the command-line) d
 
 looser : {j : ℕ} (k : ℕ) {ws : List Word} {t : Command} → j ≤ k → Text j ws t → Text k ws t
@@ -50,7 +51,7 @@ accepts ws t x = r.complete Meant rules ll follow keeps (λ l. apart-holds Meant
 one-tree : (ws : List Word) (j k : ℕ) (t u : Command) → Text j ws t → Text k ws u → t ≡ u
 one-tree ws j k t u x y = ap whole (r.unique Meant rules ll follow keeps (λ l. apart-holds Meant rules ll follow l (apart-tests l)) j k ws start (t, tt) (u, tt) fine-start (to-table x) (to-table y))
 
-leaves : (ws q : List Word) → reading ws ≡ bad 7 q → Leaves ws q
+leaves : (ws q : List Word) → reading ws ≡ bad Unexpected q → Leaves ws q
 leaves ws q e =
     let x = r.leaves Meant rules ll follow keeps (λ l. apart-holds Meant rules ll follow l (apart-tests l)) sample sampled ws q start whole fine-start e in
     record { before = x .before; split = x .parted; viable = (x .viable .0, x .viable .1 .0 .0, from-table (x .viable .1 .1)); no-more = lasts (x .before) q (x .no-more) }
@@ -59,7 +60,7 @@ leaves ws q e =
     lasts u [] n = λ t y. n _ ((t, tt), to-table y)
     lasts u (w ∷ ws) n = λ vs t y. n _ vs ((t, tt), to-table y)
 
-too-deep : (ws q : List Word) → reading ws ≡ bad 8 q → TooDeep ws q
+too-deep : (ws q : List Word) → reading ws ≡ bad NestTooDeep q → TooDeep ws q
 too-deep ws q e =
     let x = r.deep Meant rules ll follow keeps (λ l. apart-holds Meant rules ll follow l (apart-tests l)) sample sampled ws q start whole fine-start (omega arith) e in
     record {
@@ -159,27 +160,27 @@ same-eight ws p q x y = on (part (x .before) p (y .before) q (x .split ∙ sym (
 -- the machine answers 7, 8 or a tree
 data Answered (ws : List Word) : Type 0 where
   a-tree : (t : Command) → reading ws ≡ fine t → Answered ws
-  a-seven : (q : List Word) → reading ws ≡ bad 7 q → Answered ws
-  an-eight : (q : List Word) → reading ws ≡ bad 8 q → Answered ws
+  a-seven : (q : List Word) → reading ws ≡ bad Unexpected q → Answered ws
+  an-eight : (q : List Word) → reading ws ≡ bad NestTooDeep q → Answered ws
 
 answered : (ws : List Word) → Answered ws
 answered ws = r.answers Meant rules (Answered ws) ws start whole (λ t e. a-tree t e) (λ q e. a-seven q e) (λ q e. an-eight q e)
 
-seven : (ws q : List Word) → Leaves ws q → reading ws ≡ bad 7 q
+seven : (ws q : List Word) → Leaves ws q → reading ws ≡ bad Unexpected q
 seven ws q l = on (answered ws)
   where
-    on : Answered ws → reading ws ≡ bad 7 q
+    on : Answered ws → reading ws ≡ bad Unexpected q
     on (a-tree t e) = absurd (no-seven ws q t l (accepted ws t e))
-    on (a-seven p e) = e ∙ ap (bad 7) (same-seven ws p q (leaves ws p e) l)
+    on (a-seven p e) = e ∙ ap (bad Unexpected) (same-seven ws p q (leaves ws p e) l)
     on (an-eight p e) = absurd (apart ws q p l (too-deep ws p e))
 
-eight : (ws q : List Word) → TooDeep ws q → reading ws ≡ bad 8 q
+eight : (ws q : List Word) → TooDeep ws q → reading ws ≡ bad NestTooDeep q
 eight ws q x = on (answered ws)
   where
-    on : Answered ws → reading ws ≡ bad 8 q
+    on : Answered ws → reading ws ≡ bad NestTooDeep q
     on (a-tree t e) = absurd (no-eight ws q t x (accepted ws t e))
     on (a-seven p e) = absurd (apart ws p q (leaves ws p e) x)
-    on (an-eight p e) = e ∙ ap (bad 8) (same-eight ws p q (too-deep ws p e) x)
+    on (an-eight p e) = e ∙ ap (bad NestTooDeep) (same-eight ws p q (too-deep ws p e) x)
 
 pub decides : (ws : List Word) → Decides ws
 decides ws = record {

@@ -7,3 +7,4 @@ pub mod Instance
 pub mod Into
 pub mod Outof
 pub mod Answers
+pub mod Respell

@@ -9,6 +9,8 @@ use lib.ListN.{length}
 use lib.Dec.{leb}
 use borrow.Author.Tests.{clash, leb-true, leb-false}
 use Rattle.lang.specs.declared.word.Kind.{Kind}
+use Rattle.lang.specs.declared.refusal.Refusal.{Refusal}
+use Rattle.lang.specs.declared.refusal.Refusal.the-variants.{Unexpected, NestTooDeep}
 use Rattle.lang.specs.Kinds.{sameKind}
 use Rattle.grammar.specs.Words.{Word, Is}
 use Rattle.grammar.specs.Grammar.{Within}
@@ -22,10 +24,10 @@ length-append : (ws q : List Word) → length (ws ++ q) ≡ length ws + length q
 length-append [] q = omega arith
 length-append (w ∷ ws) q = omega (arith, length-append ws q)
 
-not-fine : {T : Type 0} {t : T} {n : ℕ} {r : List Word} {A : Type 0} → bad n r ≡ fine t → A
+not-fine : {T : Type 0} {t : T} {n : Refusal} {r : List Word} {A : Type 0} → bad n r ≡ fine t → A
 not-fine e = let z : _≡_ {A = ℕ} 0 1 = cc in absurd (omega arith)
 
-not-bad : {T : Type 0} {t : T} {n : ℕ} {r : List Word} {A : Type 0} → fine t ≡ bad n r → A
+not-bad : {T : Type 0} {t : T} {n : Refusal} {r : List Word} {A : Type 0} → fine t ≡ bad n r → A
 not-bad e = not-fine (sym e)
 
 module _ {L : Type 0} (V : L → Type 0) (rules : (l : L) → Alts V l) where
@@ -93,25 +95,25 @@ module _ {L : Type 0} (V : L → Type 0) (rules : (l : L) → Alts V l) where
 
   -- what the machine does after a word's step
   abbrev pub go : {T : Type 0} (w : Word) (ws : List Word) (ps : List (Part L)) (f : Means V ps → T) → Step V (Means V ps) → Out T
-  go w ws ps f s = elim s [ take qs g ↦ let r = run V rules ws qs (λ a. f (g w a)) in cond (leb (depth qs) 64) r (bad 8 (w ∷ ws)) | stop ↦ bad 7 (w ∷ ws) | pass a ↦ bad 7 (w ∷ ws) ]
+  go w ws ps f s = elim s [ take qs g ↦ let r = run V rules ws qs (λ a. f (g w a)) in cond (leb (depth qs) 64) r (bad NestTooDeep (w ∷ ws)) | stop ↦ bad Unexpected (w ∷ ws) | pass a ↦ bad Unexpected (w ∷ ws) ]
 
   -- the machine answers so, or so, or so
   pub answers : {T : Type 0} (A : Type 0) (ws : List Word) (ps : List (Part L)) (f : Means V ps → T)
-    → ((t : T) → run V rules ws ps f ≡ fine t → A) → ((q : List Word) → run V rules ws ps f ≡ bad 7 q → A) → ((q : List Word) → run V rules ws ps f ≡ bad 8 q → A) → A
+    → ((t : T) → run V rules ws ps f ≡ fine t → A) → ((q : List Word) → run V rules ws ps f ≡ bad Unexpected q → A) → ((q : List Word) → run V rules ws ps f ≡ bad NestTooDeep q → A) → A
   answers A [] ps f x y z = on (ending V rules ps) x y
     where
-      on : (o : Option (Means V ps)) → ((t : _) → finish V rules o f ≡ fine t → A) → ((q : List Word) → finish V rules o f ≡ bad 7 q → A) → A
+      on : (o : Option (Means V ps)) → ((t : _) → finish V rules o f ≡ fine t → A) → ((q : List Word) → finish V rules o f ≡ bad Unexpected q → A) → A
       on none x y = y [] refl
       on (some a) x y = x (f a) refl
   answers {T} A (w ∷ ws) ps f x y z = on (shift V rules ps (w .kind)) (λ qs g. answers A ws qs (λ a. f (g w a))) x y z
     where
-      by-depth : (c : Bool) (o : Out T) (v : List Word) → (((t : T) → o ≡ fine t → A) → ((q : List Word) → o ≡ bad 7 q → A) → ((q : List Word) → o ≡ bad 8 q → A) → A)
-        → ((t : T) → cond c o (bad 8 v) ≡ fine t → A) → ((q : List Word) → cond c o (bad 8 v) ≡ bad 7 q → A) → ((q : List Word) → cond c o (bad 8 v) ≡ bad 8 q → A) → A
+      by-depth : (c : Bool) (o : Out T) (v : List Word) → (((t : T) → o ≡ fine t → A) → ((q : List Word) → o ≡ bad Unexpected q → A) → ((q : List Word) → o ≡ bad NestTooDeep q → A) → A)
+        → ((t : T) → cond c o (bad NestTooDeep v) ≡ fine t → A) → ((q : List Word) → cond c o (bad NestTooDeep v) ≡ bad Unexpected q → A) → ((q : List Word) → cond c o (bad NestTooDeep v) ≡ bad NestTooDeep q → A) → A
       by-depth true o v i x y z = i x y z
       by-depth false o v i x y z = z v refl
       on : (s : Step V (Means V ps))
-        → ((qs : List (Part L)) (g : Word → Means V qs → Means V ps) → ((t : T) → run V rules ws qs (λ a. f (g w a)) ≡ fine t → A) → ((q : List Word) → run V rules ws qs (λ a. f (g w a)) ≡ bad 7 q → A) → ((q : List Word) → run V rules ws qs (λ a. f (g w a)) ≡ bad 8 q → A) → A)
-        → ((t : T) → go w ws ps f s ≡ fine t → A) → ((q : List Word) → go w ws ps f s ≡ bad 7 q → A) → ((q : List Word) → go w ws ps f s ≡ bad 8 q → A) → A
+        → ((qs : List (Part L)) (g : Word → Means V qs → Means V ps) → ((t : T) → run V rules ws qs (λ a. f (g w a)) ≡ fine t → A) → ((q : List Word) → run V rules ws qs (λ a. f (g w a)) ≡ bad Unexpected q → A) → ((q : List Word) → run V rules ws qs (λ a. f (g w a)) ≡ bad NestTooDeep q → A) → A)
+        → ((t : T) → go w ws ps f s ≡ fine t → A) → ((q : List Word) → go w ws ps f s ≡ bad Unexpected q → A) → ((q : List Word) → go w ws ps f s ≡ bad NestTooDeep q → A) → A
       on (take qs g) i x y z = by-depth (leb (depth qs) 64) (run V rules ws qs (λ a. f (g w a))) (w ∷ ws) (i qs g) x y z
       on stop i x y z = y (w ∷ ws) refl
       on (pass a) i x y z = y (w ∷ ws) refl
@@ -132,11 +134,11 @@ module _ {L : Type 0} (V : L → Type 0) (rules : (l : L) → Alts V l) where
     where
       on : (s : Step V (Means V ps)) → Backs V rules k 0 w ws [] s (Stack V rules k w ws ps) (Any V rules)
         → ((qs : List (Part L)) (g : Word → Means V qs → Means V ps) → run V rules ws qs (λ a. f (g w a)) ≡ fine t → Derived k qs (λ a. f (g w a)) ws t)
-        → (elim s [ take qs g ↦ let r = run V rules ws qs (λ a. f (g w a)) in cond (leb (depth qs) 64) r (bad 8 (w ∷ ws)) | stop ↦ bad 7 (w ∷ ws) | pass a ↦ bad 7 (w ∷ ws) ]) ≡ fine t
+        → (elim s [ take qs g ↦ let r = run V rules ws qs (λ a. f (g w a)) in cond (leb (depth qs) 64) r (bad NestTooDeep (w ∷ ws)) | stop ↦ bad Unexpected (w ∷ ws) | pass a ↦ bad Unexpected (w ∷ ws) ]) ≡ fine t
         → Derived k ps f (w ∷ ws) t
       on (take qs g) b i e = by-depth (leb (depth qs) 64) refl e
         where
-          by-depth : (c : Bool) → leb (depth qs) 64 ≡ c → cond c (run V rules ws qs (λ a. f (g w a))) (bad 8 (w ∷ ws)) ≡ fine t → Derived k ps f (w ∷ ws) t
+          by-depth : (c : Bool) → leb (depth qs) 64 ≡ c → cond c (run V rules ws qs (λ a. f (g w a))) (bad NestTooDeep (w ∷ ws)) ≡ fine t → Derived k ps f (w ∷ ws) t
           by-depth true c e = let x = i qs g e in (g w (x .0), b (depth qs) (x .0) (λ z. leb-true _ 64 c) (x .1), x .2)
           by-depth false c e = not-fine e
       on stop b i e = not-fine e
@@ -256,18 +258,18 @@ module _ {L : Type 0} (V : L → Type 0) (rules : (l : L) → Alts V l) where
           lasts [] n = λ k y. n k (stepped w ps qs h f k (x .before) y)
           lasts (v ∷ vs) n = λ k us y. n k us (stepped w ps qs h f k (x .before ++ v ∷ us) y)
 
-      the-rest : {T : Type 0} (n : ℕ) (x r : List Word) → _≡_ {A = Out T} (bad n x) (bad n r) → x ≡ r
+      the-rest : {T : Type 0} (n : Refusal) (x r : List Word) → _≡_ {A = Out T} (bad n x) (bad n r) → x ≡ r
       the-rest n x r e = cc
 
-      bad-apart : {T : Type 0} (x r : List Word) (A : Type 0) → _≡_ {A = Out T} (bad 8 x) (bad 7 r) → A
-      bad-apart x r A e = let z : _≡_ {A = ℕ} 8 7 = cc in absurd (omega arith)
+      bad-apart : {T : Type 0} (x r : List Word) (A : Type 0) → _≡_ {A = Out T} (bad NestTooDeep x) (bad Unexpected r) → A
+      bad-apart x r A e = let z : _≡_ {A = ℕ} 0 1 = cc in absurd (omega arith)
 
       -- 7: where the words leave the grammar
-      pub leaves : {T : Type 0} (ws r : List Word) (ps : List (Part L)) (f : Means V ps → T) → Fine ps → run V rules ws ps f ≡ bad 7 r → Off ps ws r
+      pub leaves : {T : Type 0} (ws r : List Word) (ps : List (Part L)) (f : Means V ps → T) → Fine ps → run V rules ws ps f ≡ bad Unexpected r → Off ps ws r
       leaves [] r ps f g e = on (ending V rules ps) refl e
         where
-          on : (x : Option (Means V ps)) → ending V rules ps ≡ x → finish V rules x f ≡ bad 7 r → Off ps [] r
-          on none h e = subst (Off ps []) (the-rest 7 [] r e) (off-start ps [] (λ k y. no-some (sym h ∙ ends V rules ll k (depth ps) ps (y .0) (y .1))))
+          on : (x : Option (Means V ps)) → ending V rules ps ≡ x → finish V rules x f ≡ bad Unexpected r → Off ps [] r
+          on none h e = subst (Off ps []) (the-rest Unexpected [] r e) (off-start ps [] (λ k y. no-some (sym h ∙ ends V rules ll k (depth ps) ps (y .0) (y .1))))
             where
               no-some : {A : Type 0} {t : A} → none ≡ some t → ⊥
               no-some e = let z : _≡_ {A = ℕ} 0 1 = cc in omega arith
@@ -276,32 +278,32 @@ module _ {L : Type 0} (V : L → Type 0) (rules : (l : L) → Alts V l) where
           on (shift V rules ps (w .kind)) (goods w ps g) (forths w ps g) (λ k ws. back V rules k w ws ps) (λ qs h. leaves ws r qs (λ a. f (h w a))) e
         where
           on : (s : Step V (Means V ps)) → FineStep s → Forths w ps s → Back w ps s
-            → ((qs : List (Part L)) (h : Word → Means V qs → Means V ps) → Fine qs → run V rules ws qs (λ a. f (h w a)) ≡ bad 7 r → Off qs ws r)
-            → go w ws ps f s ≡ bad 7 r → Off ps (w ∷ ws) r
+            → ((qs : List (Part L)) (h : Word → Means V qs → Means V ps) → Fine qs → run V rules ws qs (λ a. f (h w a)) ≡ bad Unexpected r → Off qs ws r)
+            → go w ws ps f s ≡ bad Unexpected r → Off ps (w ∷ ws) r
           on (take qs h) q x b i e = by-depth (leb (depth qs) 64) refl e
             where
-              by-depth : (c : Bool) → leb (depth qs) 64 ≡ c → cond c (run V rules ws qs (λ a. f (h w a))) (bad 8 (w ∷ ws)) ≡ bad 7 r → Off ps (w ∷ ws) r
+              by-depth : (c : Bool) → leb (depth qs) 64 ≡ c → cond c (run V rules ws qs (λ a. f (h w a))) (bad NestTooDeep (w ∷ ws)) ≡ bad Unexpected r → Off ps (w ∷ ws) r
               by-depth true c e = off-on w ws r ps qs h x b (leb-true _ 64 c) (i qs h q e)
               by-depth false c e = bad-apart _ _ _ e
-          on stop q x b i e = subst (Off ps (w ∷ ws)) (the-rest 7 (w ∷ ws) r e) (off-start ps (w ∷ ws) (λ k vs y. x k vs (y .0) (y .1)))
-          on (pass a) q x b i e = subst (Off ps (w ∷ ws)) (the-rest 7 (w ∷ ws) r e) (off-start ps (w ∷ ws) (λ k vs y. x k vs (y .0) (y .1)))
+          on stop q x b i e = subst (Off ps (w ∷ ws)) (the-rest Unexpected (w ∷ ws) r e) (off-start ps (w ∷ ws) (λ k vs y. x k vs (y .0) (y .1)))
+          on (pass a) q x b i e = subst (Off ps (w ∷ ws)) (the-rest Unexpected (w ∷ ws) r e) (off-start ps (w ∷ ws) (λ k vs y. x k vs (y .0) (y .1)))
 
       -- 8: where they pass the greatest nest
-      pub deep : {T : Type 0} (ws r : List Word) (ps : List (Part L)) (f : Means V ps → T) → Fine ps → depth ps ≤ 64 → run V rules ws ps f ≡ bad 8 r → Deep ps ws r
+      pub deep : {T : Type 0} (ws r : List Word) (ps : List (Part L)) (f : Means V ps → T) → Fine ps → depth ps ≤ 64 → run V rules ws ps f ≡ bad NestTooDeep r → Deep ps ws r
       deep [] r ps f g o e = on (ending V rules ps) e
         where
-          on : (x : Option (Means V ps)) → finish V rules x f ≡ bad 8 r → Deep ps [] r
+          on : (x : Option (Means V ps)) → finish V rules x f ≡ bad NestTooDeep r → Deep ps [] r
           on none e = bad-apart _ _ _ (sym e)
           on (some a) e = not-bad e
       deep (w ∷ ws) r ps f g o e =
           on (shift V rules ps (w .kind)) (goods w ps g) (forths w ps g) (λ k ws. back V rules k w ws ps) (λ qs h. deep ws r qs (λ a. f (h w a))) e
         where
           on : (s : Step V (Means V ps)) → FineStep s → Forths w ps s → Back w ps s
-            → ((qs : List (Part L)) (h : Word → Means V qs → Means V ps) → Fine qs → depth qs ≤ 64 → run V rules ws qs (λ a. f (h w a)) ≡ bad 8 r → Deep qs ws r)
-            → go w ws ps f s ≡ bad 8 r → Deep ps (w ∷ ws) r
+            → ((qs : List (Part L)) (h : Word → Means V qs → Means V ps) → Fine qs → depth qs ≤ 64 → run V rules ws qs (λ a. f (h w a)) ≡ bad NestTooDeep r → Deep qs ws r)
+            → go w ws ps f s ≡ bad NestTooDeep r → Deep ps (w ∷ ws) r
           on (take qs h) q x b i e = by-depth (leb (depth qs) 64) refl e
             where
-              by-depth : (c : Bool) → leb (depth qs) 64 ≡ c → cond c (run V rules ws qs (λ a. f (h w a))) (bad 8 (w ∷ ws)) ≡ bad 8 r → Deep ps (w ∷ ws) r
+              by-depth : (c : Bool) → leb (depth qs) 64 ≡ c → cond c (run V rules ws qs (λ a. f (h w a))) (bad NestTooDeep (w ∷ ws)) ≡ bad NestTooDeep r → Deep ps (w ∷ ws) r
               by-depth true c e =
                   let y = i qs h q (leb-true _ 64 c) e in
                   record {
@@ -313,7 +315,7 @@ module _ {L : Type 0} (V : L → Type 0) (rules : (l : L) → Alts V l) where
                   let v = fill qs in
                   let n = suc (length (w ∷ v .0)) in
                   record {
-                    before = []; word = w; after = ws; here = sym (the-rest 8 (w ∷ ws) r e); parted = sym (the-rest 8 (w ∷ ws) r e);
+                    before = []; word = w; after = ws; here = sym (the-rest NestTooDeep (w ∷ ws) r e); parted = sym (the-rest NestTooDeep (w ∷ ws) r e);
                     so-far = (v .0, (h w (v .1), b n (v .0) (depth qs) (v .1) (λ z. absurd (omega (arith, z))) (v .2 n (omega arith))));
                     no-more = λ vs z. let y = x (length (w ∷ vs)) vs (z .0) (z .1) in omega (arith, y .4 (λ u. o) (omega arith), is-depth V rules qs (y .2), leb-false _ 64 c)
                   }

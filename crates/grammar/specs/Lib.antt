@@ -4,3 +4,5 @@ pub mod Refusals
 pub mod Machine
 pub mod Table
 pub mod Answer
+pub mod Spelling
+pub mod Examples

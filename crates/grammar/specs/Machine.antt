@@ -6,6 +6,8 @@ use mathlib.Core.Option.{Option, some, none}
 use Prim.Native.Nat.{ℕ, suc, _+_, _≤_}
 use lib.Dec.{leb}
 use Rattle.lang.specs.declared.word.Kind.{Kind}
+use Rattle.lang.specs.declared.refusal.Refusal.{Refusal}
+use Rattle.lang.specs.declared.refusal.Refusal.the-variants.{Unexpected, NestTooDeep}
 use Rattle.lang.specs.Kinds.{sameKind}
 use Rattle.grammar.specs.Words.{Word}
 
@@ -46,7 +48,7 @@ pub data Step {L : Type 0} (V : L → Type 0) (T : Type 0) : Type 0 where
 
 pub data Out (T : Type 0) : Type 0 where
   fine : T → Out T
-  bad : ℕ → List Word → Out T
+  bad : Refusal → List Word → Out T
 
 abbrev pub both : {A B : Type 0} → Option A → Option B → Option (A × B)
 both none y = none
@@ -113,12 +115,12 @@ module _ {L : Type 0} (V : L → Type 0) where
 
     abbrev pub finish : {A T : Type 0} → Option A → (A → T) → Out T
     finish (some a) f = fine (f a)
-    finish none f = bad 7 []
+    finish none f = bad Unexpected []
 
     -- the machine: ps is still to come, and f says what it all means then
     abbrev pub run : {T : Type 0} → (ws : List Word) (ps : List (Part L)) → (Means V ps → T) → Out T
     run [] ps f = finish (ending ps) f
     run (w ∷ ws) ps f = elim (shift ps (w .kind)) [
-        take qs g ↦ let r = run ws qs (λ a. f (g w a)) in cond (leb (depth qs) 64) r (bad 8 (w ∷ ws))
-      | stop ↦ bad 7 (w ∷ ws)
-      | pass a ↦ bad 7 (w ∷ ws) ]
+        take qs g ↦ let r = run ws qs (λ a. f (g w a)) in cond (leb (depth qs) 64) r (bad NestTooDeep (w ∷ ws))
+      | stop ↦ bad Unexpected (w ∷ ws)
+      | pass a ↦ bad Unexpected (w ∷ ws) ]
