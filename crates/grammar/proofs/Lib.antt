@@ -1,0 +1,10 @@
+pub mod Derive
+pub mod Back
+pub mod Forth
+pub mod Runs
+pub mod Decide
+pub mod Instance
+pub mod Into
+pub mod Outof
+pub mod Answers
+pub mod Respell
