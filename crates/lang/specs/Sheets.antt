@@ -5,7 +5,6 @@ use mathlib.Core.List.{List, [], _∷_, _++_}
 use lib.Dec.{leb, ltb, eqb}
 use lib.IntN.{ℤ, pos, negsuc}
 use lib.ListN.{length, take, set}
-use lib.Signed.{leZ}
 use denote.Ref.{now}
 use Rattle.std.specs.Finite.{nth}
 use Rattle.std.specs.declared.option.Option.{Option}
@@ -24,7 +23,7 @@ use Rattle.lang.specs.declared.sheet.Sheet.{Sheet}
 use Rattle.lang.specs.declared.sheet.Described.{Described}
 use Rattle.lang.specs.Bytes.{class as classOf, nameByte}
 use Rattle.lang.specs.Names.{same, padded}
-use Rattle.lang.specs.Values.{alike}
+use Rattle.lang.specs.Values.{alike, inRange}
 use Rattle.lang.specs.Words.{reserved}
 
 -- its entries, numbered from 0
@@ -89,16 +88,13 @@ firstLetter (b ∷ bs) = isLetter b
 abbrev pub isName : List ℕ → Bool
 isName bs = leb (length bs) 16 && (firstLetter bs && (allName bs && plainWord (reserved bs)))
 
--- the value that the host means by a kind (0 number, 1 truth) and a number
-abbrev pub inRange : ℤ → Bool
-inRange z = leZ (negsuc 2147483647) z && leZ z (pos 2147483647)
-
 abbrev pub truthOf : ℤ → Option Value
 truthOf (pos zero) = Some (Truth false)
 truthOf (pos (suc zero)) = Some (Truth true)
 truthOf (pos (suc (suc n))) = None
 truthOf (negsuc n) = None
 
+-- the value that the host means by a kind (0 number, 1 truth) and a number
 abbrev pub valueOf : ℕ → ℤ → Option Value
 valueOf zero z = cond (inRange z) (Some (Number z)) None
 valueOf (suc zero) z = truthOf z

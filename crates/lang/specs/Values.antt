@@ -1,5 +1,7 @@
 -- Values, their kinds, and the slots that hold them.
-use mathlib.Core.Bool.{Bool, true, false}
+use mathlib.Core.Bool.{Bool, true, false, _&&_}
+use lib.IntN.{ℤ, pos, negsuc}
+use lib.Signed.{leZ}
 use Rattle.std.specs.declared.option.Option.{Option}
 use Rattle.std.specs.declared.option.Option.the-variants.{Some, None}
 use Rattle.lang.specs.declared.value.Kind.{Kind}
@@ -8,6 +10,10 @@ use Rattle.lang.specs.declared.value.Value.{Value}
 use Rattle.lang.specs.declared.value.Value.the-variants as value
 use Rattle.lang.specs.declared.value.Slot.{Slot}
 use Rattle.lang.specs.declared.value.Slot.the-variants as slot
+
+-- the numbers there are: from −2,147,483,648 to 2,147,483,647
+abbrev pub inRange : ℤ → Bool
+inRange z = leZ (negsuc 2147483647) z && leZ z (pos 2147483647)
 
 -- a value's kind
 abbrev pub kindOf : Value → Kind

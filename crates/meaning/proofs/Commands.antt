@@ -14,7 +14,7 @@ use Rattle.lang.specs.declared.name.Name.{Name}
 use Rattle.lang.specs.declared.value.Value.{Value}
 use Rattle.lang.specs.declared.value.Slot.{Slot}
 use Rattle.lang.specs.declared.value.Slot.the-variants as slot
-use Rattle.lang.specs.Values.{slotOf}
+use Rattle.lang.specs.Values.{slotOf, alike}
 use Rattle.lang.specs.declared.fault.Fault.the-variants as fault
 use Rattle.lang.specs.declared.refusal.Refusal.the-variants.{WrongCount}
 use Rattle.lang.specs.declared.instruction.Binding.the-variants.{Constant, Variable}
@@ -23,7 +23,6 @@ use Rattle.meaning.specs.Tree.{Place, Expr, Args, args, Data, no-data, const, 
 use Rattle.meaning.specs.Limits.{mostSteps}
 use Rattle.meaning.specs.Scopes.{Names, constant, variable, procedure, Use, find, hopsOf, offsetOf, params, dataNames, blockNames}
 use Rattle.meaning.specs.Violations.{wrong, variableUse, asVariable, procedureUse, asProcedure, wrongE, wrongA, wrongD, wrongN, wrongC, wrongS, wrongR}
-use Rattle.meaning.specs.Operators.{alike}
 use Rattle.meaning.specs.Translation.{codeE, codeA, codeD, codeC, codeS, codeR}
 use Rattle.meaning.specs.Machine.{Machine, go, stop, onFrames, answered, storedOver, storedIn, storing, called}
 use Rattle.meaning.specs.Meaning.{Answer, ok, Run, bind, Meant, a-value, a-location, a-function, a-procedure, Bound, Env, Store, valueAt, lookup, Room, inside, opens, given, Calls, evalE, evalA, calls, Runs, evalD, declared, assigns, entersC, evalC, evalS, runs}

@@ -16,7 +16,7 @@ use Rattle.lang.specs.declared.value.Value.{Value}
 use Rattle.lang.specs.declared.value.Value.the-variants.{Number, Truth}
 use Rattle.lang.specs.declared.value.Slot.{Slot}
 use Rattle.lang.specs.declared.value.Slot.the-variants as slot
-use Rattle.lang.specs.Values.{slotOf, valueIn}
+use Rattle.lang.specs.Values.{slotOf, valueIn, alike, inRange}
 use Rattle.lang.specs.declared.fault.Fault.{Fault}
 use Rattle.lang.specs.declared.fault.Fault.the-variants as fault
 use Rattle.lang.specs.declared.refusal.Refusal.{Refusal}
@@ -26,7 +26,7 @@ use Rattle.lang.specs.declared.instruction.Instruction.the-variants.{Push, Load
 use Rattle.frames.specs.Frames.{Frames, none, _▷_, count, total, newest, walk, got, Built, refused, done, deep, fresh, grown, opened, enteredFrom, entered, left, filled, filledIn, writtenFrom, written}
 use Rattle.meaning.specs.Tree.{Place, Sign, minus, negate, Operator, add, sub, mul, equal, less}
 use Rattle.meaning.specs.Limits.{mostSteps, mostFrames, mostSlots, mostValues, mostReturns}
-use Rattle.meaning.specs.Operators.{Worked, fits, ranged, worked, conjoined, disjoined, withSign, alike}
+use Rattle.meaning.specs.Operators.{Worked, ranged, worked, conjoined, disjoined, withSign}
 use Rattle.meaning.specs.Translation.{Code}
 use Rattle.meaning.specs.Machine.{Machine, Next, go, stop, ended, stuck, failed, on, pushed, loadedValue, loaded, gives, onOne, onTwo, branched, faultOf, refusedBy, answered, built, filling, storedOver, storedIn, storing, moved, calledAt, called, returned, act, counted, fetched, step, after}
 use Rattle.meaning.specs.Agreement.{faultAt, Shallow, Within}
@@ -114,7 +114,7 @@ Early (Ok v) = Unit {0}
 Early (Err f) = (s : ℕ) → faultAt f s ≡ s
 
 ranged-early : (z : ℤ) → Early (ranged z)
-ranged-early z = by (fits z)
+ranged-early z = by (inRange z)
   where
     by : (b : Bool) → Early (cond b (Ok (Number z)) (Err fault.Range))
     by true = tt

@@ -13,7 +13,7 @@ use Rattle.lang.specs.declared.value.Value.{Value}
 use Rattle.lang.specs.declared.value.Value.the-variants.{Number, Truth}
 use Rattle.lang.specs.declared.value.Slot.{Slot}
 use Rattle.lang.specs.declared.value.Slot.the-variants as slot
-use Rattle.lang.specs.Values.{slotOf, valueIn}
+use Rattle.lang.specs.Values.{slotOf, valueIn, alike}
 use Rattle.lang.specs.declared.fault.Fault.{Fault}
 use Rattle.lang.specs.declared.fault.Fault.the-variants as fault
 use Rattle.lang.specs.declared.refusal.Refusal.{Refusal}
@@ -23,7 +23,7 @@ use Rattle.lang.specs.declared.instruction.Instruction.the-variants.{Push, Load
 use Rattle.frames.specs.Frames.{Frames, Built, got, opened, entered, left, written}
 use Rattle.meaning.specs.Tree.{Place, minus, negate, add, sub, mul, equal, less}
 use Rattle.meaning.specs.Limits.{mostSteps, mostValues, mostReturns}
-use Rattle.meaning.specs.Operators.{Worked, worked, conjoined, disjoined, withSign, alike}
+use Rattle.meaning.specs.Operators.{Worked, worked, conjoined, disjoined, withSign}
 use Rattle.meaning.specs.Translation.{Code}
 
 -- where it is in the code, the waiting values (the last on top), the return positions (the last first), the frames, the steps done

@@ -15,7 +15,8 @@ use Rattle.lang.specs.declared.value.Value.the-variants.{Number, Truth}
 use Rattle.lang.specs.declared.fault.Fault.{Fault}
 use Rattle.lang.specs.declared.fault.Fault.the-variants.{Kind, Frames, Slots, Values, Steps}
 use Rattle.meaning.specs.Tree.{Place, Expr, number, truth, read, signed, binary, both, either, choose, local, apply, Args, no-args, arg, args, Parameter, Data, no-data, const, var, data-slots, Command, block, assign, perform, fork, while, Commands, no-commands, then, Routines, no-routines, fun, proc, routine-slots}
-use Rattle.meaning.specs.Operators.{Worked, worked, conjoined, disjoined, withSign, alike}
+use Rattle.lang.specs.Values.{alike}
+use Rattle.meaning.specs.Operators.{Worked, worked, conjoined, disjoined, withSign}
 use Rattle.meaning.specs.Limits.{mostSteps, mostFrames, mostSlots, mostValues}
 
 -- what a part of a run answers: a result, or a fault with its place; and the steps done by then

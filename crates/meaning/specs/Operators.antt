@@ -4,6 +4,7 @@ use lib.IntN.{ℤ, pos, negsuc, _+ℤ_, _-ℤ_, _*ℤ_, negℤ}
 use lib.Signed.{ltZ, leZ}
 use Rattle.std.specs.declared.result.Result.{Result}
 use Rattle.std.specs.declared.result.Result.the-variants.{Ok, Err}
+use Rattle.lang.specs.Values.{inRange}
 use Rattle.lang.specs.declared.value.Value.{Value}
 use Rattle.lang.specs.declared.value.Value.the-variants.{Number, Truth}
 use Rattle.lang.specs.declared.fault.Fault.{Fault}
@@ -13,12 +14,9 @@ use Rattle.meaning.specs.Tree.{Sign, minus, negate, Operator, add, sub, mul, e
 abbrev pub Worked : Type 0
 Worked = Result Value Fault
 
--- from −2,147,483,648 to 2,147,483,647
-abbrev pub fits : ℤ → Bool
-fits z = leZ (negsuc 2147483647) z && leZ z (pos 2147483647)
-
+-- a result has to be a number that there is
 abbrev pub ranged : ℤ → Worked
-ranged z = cond (fits z) (Ok (Number z)) (Err fault.Range)
+ranged z = cond (inRange z) (Ok (Number z)) (Err fault.Range)
 
 -- whether two numbers are equal
 abbrev pub sameZ : ℤ → ℤ → Bool
@@ -53,10 +51,3 @@ withSign minus (Number a) = ranged (negℤ a)
 withSign minus (Truth b) = Err fault.Kind
 withSign negate (Number a) = Err fault.Kind
 withSign negate (Truth b) = Ok (Truth (not b))
-
--- whether two values have one kind
-abbrev pub alike : Value → Value → Bool
-alike (Number a) (Number b) = true
-alike (Number a) (Truth b) = false
-alike (Truth a) (Number b) = false
-alike (Truth a) (Truth b) = true

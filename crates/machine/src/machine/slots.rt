@@ -3,7 +3,6 @@ ghost use Prim.Native.Nat.{_+_, _<_};
 ghost use Rattle.lang.specs.Stacks.{items, room};
 ghost use Rattle.lang.specs.Values.{slotOf, valueIn};
 ghost use Rattle.frames.specs.Frames.{written};
-ghost use Rattle.meaning.specs.Operators.{alike as oneKind};
 ghost use Rattle.meaning.specs.Machine.{act, on, built, filling, storedOver, faultOf, refusedBy, answered, moved, calledAt};
 ghost use Rattle.machine.specs.Shows.{Did, acted, movedBy};
 use crate::machine::Machine;
@@ -16,17 +15,6 @@ use lang::refusal::Refusal;
 use lang::stack::Stack;
 use lang::value::Slot;
 use lang::value::Value;
-
-// Whether two values have one kind.
-fn alike(u: Value, v: Value) -> bool
-    ensures { λ r. ⌜ r ≡ oneKind u v ⌝ }
-{
-    match (u, v) {
-        (Value::Number(_), Value::Number(_)) => true,
-        (Value::Truth(_), Value::Truth(_)) => true,
-        _ => false,
-    }
-}
 
 // What a frame memory's refusal does to a run. Checked code names slots that stand, and its frames
 // nest at most 16 deep.
@@ -126,7 +114,7 @@ impl<'m, F: BuildFrames + Drop> Machine<'m, F> {
         match slot.value() {
             None => Act::Stuck, // in checked code the slot of a variable holds a value
             Some(u) => {
-                if alike(u, v) {
+                if u.alike(v) {
                     self.put_value(hops as usize, offset, v)
                 } else {
                     Act::Stop(Fault::Kind)
