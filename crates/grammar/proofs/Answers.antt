@@ -64,8 +64,13 @@ too-deep : (ws q : List Word) → reading ws ≡ bad NestTooDeep q → TooDeep w
 too-deep ws q e =
     let x = r.deep Meant rules ll follow keeps (λ l. apart-holds Meant rules ll follow l (apart-tests l)) sample sampled ws q start whole fine-start (omega arith) e in
     record {
-      before = x .before; word = x .word; after = x .after; here = x .here; split = x .parted;
-      so-far = (x .so-far .0, x .so-far .1 .0 .0, from-table (x .so-far .1 .1)); no-more = λ vs t y. x .no-more vs ((t, tt), to-table y)
+      before = x .before;
+      word = x .word;
+      after = x .after;
+      here = x .here;
+      split = x .parted;
+      so-far = (x .so-far .0, x .so-far .1 .0 .0, from-table (x .so-far .1 .1));
+      no-more = λ vs t y. x .no-more vs ((t, tt), to-table y);
     }
 
 -- two ways to part the same words
@@ -88,6 +93,7 @@ part (w ∷ u) p (y ∷ v) q e = on (part u p v q (tails w y (u ++ p) (v ++ q) e
   where
     h : w ≡ y
     h = heads w y (u ++ p) (v ++ q) e
+
     on : Parted u p v q → Parted (w ∷ u) p (y ∷ v) q
     on (alike a b) = alike (ap (λ z. w ∷ z) a ∙ ap (λ z. z ∷ v) h) b
     on (longer s x a b) = longer s x (ap (λ z. z ∷ v) (sym h) ∙ ap (λ z. w ∷ z) a) b
@@ -187,5 +193,5 @@ decides ws = record {
   accepts = λ t. (accepts ws t, accepted ws t);
   seven = λ q. (seven ws q, leaves ws q);
   eight = λ q. (eight ws q, too-deep ws q);
-  one-tree = one-tree ws
+  one-tree = one-tree ws;
 }

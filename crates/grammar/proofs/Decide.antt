@@ -21,7 +21,7 @@ use Rattle.grammar.proofs.Forth.{LL, takes, starts, Good, Keeps}
 
 abbrev pub kinds : List Kind
 kinds = Name ∷ Number ∷ Call ∷ If ∷ Then ∷ Else ∷ While ∷ Do ∷ Const ∷ Var ∷ Fun ∷ Proc ∷ Let ∷ In ∷ Or ∷ And ∷ Not ∷ True ∷ False
-  ∷ OpenBrace ∷ CloseBrace ∷ Open ∷ Close ∷ Semicolon ∷ Comma ∷ Equal ∷ Less ∷ Plus ∷ Minus ∷ Times ∷ Becomes ∷ []
+    ∷ OpenBrace ∷ CloseBrace ∷ Open ∷ Close ∷ Semicolon ∷ Comma ∷ Equal ∷ Less ∷ Plus ∷ Minus ∷ Times ∷ Becomes ∷ []
 
 abbrev nth : List Kind → ℕ → Kind
 nth [] n = Name
@@ -65,7 +65,6 @@ abbrev _&&_ : Bool → Bool → Bool
 _&&_ a b = cond a b false
 
 infixr 30 _&&_
-
 abbrev not : Bool → Bool
 not a = cond a false true
 

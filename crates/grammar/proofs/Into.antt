@@ -49,7 +49,7 @@ Into k atom-line n ws r t = T k (alts n atoms) ws r t
 
 -- a line that is not empty, and what follows it
 begun : {l : Row} (m : Row) {k n : ℕ} {ps : List (Part Row)} {b : Word → Meant m → Means Meant ps → Meant l} {more : Alts Meant l} {ws us r : List Word} {t : Meant m} {a : Means Meant ps}
-  → nothing Meant (rules m) ≡ none → T k (alts n (rules m)) ws us t → T k (parts n n ps) us r a → T k (alts n (begins (rules m) ps b more)) ws r (b (head ws) t a)
+    → nothing Meant (rules m) ≡ none → T k (alts n (rules m)) ws us t → T k (parts n n ps) us r a → T k (alts n (begins (rules m) ps b more)) ws r (b (head ws) t a)
 begun m {k} {n} {ws = []} {us} {t = t} e d x = let z = ends-alts Meant rules k n us (rules m) t (ll m) d .1 in let c = sym e ∙ z in let y : _≡_ {A = ℕ} 0 1 = cc in absurd (omega arith)
 begun m {ws = w ∷ ws} e d x = here-line d x
 

@@ -66,4 +66,4 @@ pub added-one : (es fs : List Entry) (e : Entry) → length es < 32 → false �
 added-one es fs e h n k =
     ap Some k
     ∙ sym (cond-false (leb 32 (length es)) None (cond (named (e .name) es) None (Some (es ++ (e ∷ [])))) (lt-leb 32 (length es) h)
-      ∙ cond-false (named (e .name) es) None (Some (es ++ (e ∷ []))) (sym n))
+    ∙ cond-false (named (e .name) es) None (Some (es ++ (e ∷ []))) (sym n))

@@ -4,5 +4,4 @@ pub struct Name {
     pub bytes: [u8; 16],
 }
 
-
 pub mod calls;

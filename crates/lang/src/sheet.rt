@@ -32,6 +32,5 @@ pub struct Described<'t> {
     pub value: i64,
 }
 
-pub mod entries;
-
 pub mod calls;
+pub mod entries;

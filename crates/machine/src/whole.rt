@@ -43,7 +43,11 @@ fn take_over<F: BuildFrames + Drop>(machine: &Machine<F>, sheet: &mut Sheet)
 
 // Runs code over a sheet, to its end or its fault. Done takes over the entries' values; a fault leaves them.
 // No frame stands afterwards.
-pub fn run_over<F: BuildFrames + Drop>(machine: &mut Machine<F>, code: &Code, sheet: &mut Sheet) -> Result<Ran, Refusal>
+pub fn run_over<F: BuildFrames + Drop>(
+    machine: &mut Machine<F>,
+    code: &Code,
+    sheet: &mut Sheet,
+) -> Result<Ran, Refusal>
     ensures { λ r. ⌜ Means (F·ReadFrames .sound) (F·ReadFrames .frames) (now (code .entry)) (entriesOf (now (sheet .entry))) (entriesOf (now (sheet .exit))) (now (machine .entry)) (now (machine .exit)) r ⌝ }
 {
     let mut table = [Value::Number(0); 32];

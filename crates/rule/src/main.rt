@@ -1,12 +1,12 @@
 // Reads a rule from standard input, runs it over the sheet of the examples, and prints what became of it.
-use std::error::AnyError;
-use std::io;
-use std::io::Read;
 use lang::refusal::Refusal;
 use runner::example::example_sheet;
 use runner::owned::Unjudged;
 use runner::owned::judge_over_chain;
 use runner::report::report;
+use std::error::AnyError;
+use std::io;
+use std::io::Read;
 
 // One byte more than a text may have: what is longer is refused whatever follows.
 const ENOUGH: u64 = 32769;

@@ -1,3 +1,4 @@
+use crate::answer::Answer;
 use frames::memory::BuildFrames;
 use lang::code::Code;
 use lang::instruction::Instruction;
@@ -11,7 +12,6 @@ use reader::node::Node;
 use reader::tree::Tree;
 use translate::load::load;
 use translate::record::Record;
-use crate::answer::Answer;
 
 // The memory for one rule, but for its frames.
 #[derive(Drop)]
@@ -28,8 +28,20 @@ pub const MOST_NAMES: usize = 1024;
 
 // Reads a rule and runs it over the sheet and any frame memory. Done takes over the entries' values; a refused
 // text and a fault leave them. 1 where some memory is too short.
-pub fn judge<'m, F: BuildFrames + Drop>(text: &[u8], sheet: &mut Sheet, memory: Memory<'m>, frames: F) -> Result<Answer, Refusal> {
-    let Memory { nodes, names, instructions, places, values, returns } = memory;
+pub fn judge<'m, F: BuildFrames + Drop>(
+    text: &[u8],
+    sheet: &mut Sheet,
+    memory: Memory<'m>,
+    frames: F,
+) -> Result<Answer, Refusal> {
+    let Memory {
+        nodes,
+        names,
+        instructions,
+        places,
+        values,
+        returns,
+    } = memory;
     if names.len() < MOST_NAMES {
         return Err(Refusal::ShortMemory);
     }

@@ -2,6 +2,6 @@
 pub mod answer;
 pub mod example;
 pub mod judge;
+pub mod listing;
 pub mod owned;
 pub mod report;
-pub mod listing;

@@ -1,21 +1,26 @@
-use std::alloc::AllocError;
-use std::alloc::Global;
+use crate::judge::MOST_NAMES;
+use crate::owned::Unjudged;
+use crate::owned::UnjudgedFromAlloc;
+use crate::owned::UnjudgedFromRefusal;
+use crate::report::refusal_line;
 use lang::code::Code;
 use lang::instruction::Instruction;
 use lang::sheet::Sheet;
 use lang::stack::Stack;
 use reader::node::BLANK;
 use reader::tree::Tree;
+use std::alloc::AllocError;
+use std::alloc::Global;
 use translate::load::load;
 use translate::record::NO_RECORD;
-use crate::judge::MOST_NAMES;
-use crate::owned::Unjudged;
-use crate::owned::UnjudgedFromAlloc;
-use crate::owned::UnjudgedFromRefusal;
-use crate::report::refusal_line;
 
 // The line of an instruction: position, number, three operands, place.
-fn line(heap: Global, at: usize, instruction: Instruction, place: u16) -> Result<String, AllocError> {
+fn line(
+    heap: Global,
+    at: usize,
+    instruction: Instruction,
+    place: u16,
+) -> Result<String, AllocError> {
     let [number, a, b, c] = instruction.parts();
     format!(heap, "{at} {number} {a} {b} {c} {place}\n")
 }

@@ -1,22 +1,22 @@
-use std::alloc::AllocError;
-use std::alloc::Global;
-use frames::chain::Chain;
-use frames::display::Display;
-use frames::memory::BuildFrames;
-use lang::instruction::Instruction;
-use lang::refusal::Refusal;
-use lang::sheet::Sheet;
-use lang::value::Slot;
-use lang::value::Value;
-use reader::node::BLANK;
-use translate::record::NO_RECORD;
 use crate::answer::Answer;
 use crate::judge::MOST_NAMES;
 use crate::judge::Memory;
 use crate::judge::judge;
+use frames::chain::Chain;
 use frames::chain::calls::ChainBuildFrames;
+use frames::display::Display;
 use frames::display::calls::DisplayBuildFrames;
+use frames::memory::BuildFrames;
+use lang::instruction::Instruction;
+use lang::refusal::Refusal;
 use lang::refusal::RefusalDebug;
+use lang::sheet::Sheet;
+use lang::value::Slot;
+use lang::value::Value;
+use reader::node::BLANK;
+use std::alloc::AllocError;
+use std::alloc::Global;
+use translate::record::NO_RECORD;
 
 // Why a rule could not be judged at all: no memory was to be had, or what was handed over is too short.
 #[derive(Clone, Copy, Debug)]
@@ -38,7 +38,12 @@ pub impl From<Refusal> for Unjudged as UnjudgedFromRefusal {
 }
 
 // Judges a rule in memory from the heap.
-fn judge_in<F: BuildFrames + Drop>(heap: Global, text: &[u8], sheet: &mut Sheet, frames: F) -> Result<Answer, Unjudged> {
+fn judge_in<F: BuildFrames + Drop>(
+    heap: Global,
+    text: &[u8],
+    sheet: &mut Sheet,
+    frames: F,
+) -> Result<Answer, Unjudged> {
     let mut nodes = vec![in heap; BLANK; 4096]?;
     let mut names = vec![in heap; NO_RECORD; MOST_NAMES]?;
     let mut instructions = vec![in heap; Instruction::Back; 12288]?;
@@ -66,7 +71,11 @@ pub fn judge_over_chain(heap: Global, text: &[u8], sheet: &mut Sheet) -> Result<
 }
 
 // Judges a rule over a display.
-pub fn judge_over_display(heap: Global, text: &[u8], sheet: &mut Sheet) -> Result<Answer, Unjudged> {
+pub fn judge_over_display(
+    heap: Global,
+    text: &[u8],
+    sheet: &mut Sheet,
+) -> Result<Answer, Unjudged> {
     let mut levels = vec![in heap; 0u16; 4096]?;
     let mut starts = vec![in heap; 0u16; 256]?;
     let mut slots = vec![in heap; Slot::Unset; 2048]?;

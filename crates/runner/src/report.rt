@@ -1,11 +1,11 @@
-use std::alloc::AllocError;
-use std::alloc::Global;
+use crate::answer::Answer;
 use lang::refusal::Refused;
 use lang::sheet::Sheet;
 use lang::value::Value;
 use machine::outcome::Outcome;
 use machine::outcome::Ran;
-use crate::answer::Answer;
+use std::alloc::AllocError;
+use std::alloc::Global;
 
 // A value as a number: a truth is 1 or 0.
 fn number_of(value: Value) -> i32 {

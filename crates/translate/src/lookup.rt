@@ -1,11 +1,11 @@
-use lang::name::Name;
-use lang::stack::Stack;
-use reader::node::Label;
-use reader::tree::Tree;
 use crate::record::Found;
 use crate::record::Record;
 use crate::record::Sort;
 use crate::view::calls::last;
+use lang::name::Name;
+use lang::stack::Stack;
+use reader::node::Label;
+use reader::tree::Tree;
 
 // What a routine's node declares.
 pub fn routine_sort(label: Label, count: u16) -> Sort {
@@ -35,11 +35,33 @@ fn among(tree: &Tree, start: usize, end: usize, name: Name) -> Option<Sort> {
 // What a record says of a name.
 fn in_record(tree: &Tree, record: Record, name: Name) -> Option<Found> {
     match record {
-        Record::Known { name: known, sort, level, offset } => {
-            if name.same(known) { Some(Found { sort, level, offset }) } else { None }
+        Record::Known {
+            name: known,
+            sort,
+            level,
+            offset,
+        } => {
+            if name.same(known) {
+                Some(Found {
+                    sort,
+                    level,
+                    offset,
+                })
+            } else {
+                None
+            }
         }
-        Record::Rest { level, start, end } => match among(tree, start as usize, end as usize, name) {
-            Some(sort) => Some(Found { sort, level, offset: 0 }),
+        Record::Rest { level, start, end } => match among(
+            tree,
+            start as usize,
+            end as usize,
+            name,
+        ) {
+            Some(sort) => Some(Found {
+                sort,
+                level,
+                offset: 0,
+            }),
             None => None,
         },
     }
@@ -51,7 +73,11 @@ fn inner(found: Option<Found>, newer: Option<Found>) -> Option<Found> {
         (None, newer) => newer,
         (found, None) => found,
         (Some(old), Some(new)) => {
-            if old.level < new.level { Some(new) } else { Some(old) }
+            if old.level < new.level {
+                Some(new)
+            } else {
+                Some(old)
+            }
         }
     }
 }

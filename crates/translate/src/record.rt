@@ -13,8 +13,17 @@ pub enum Sort {
 // `level` counts the frames outside the one that has the name.
 #[derive(Clone, Copy)]
 pub enum Record {
-    Known { name: Name, sort: Sort, level: u8, offset: u8 },
-    Rest { level: u8, start: u16, end: u16 },
+    Known {
+        name: Name,
+        sort: Sort,
+        level: u8,
+        offset: u8,
+    },
+    Rest {
+        level: u8,
+        start: u16,
+        end: u16,
+    },
 }
 
 // What a use means.
@@ -26,4 +35,9 @@ pub struct Found {
 }
 
 // The zero record.
-pub const NO_RECORD: Record = Record::Known { name: Name { bytes: [0; 16] }, sort: Sort::Constant, level: 0, offset: 0 };
+pub const NO_RECORD: Record = Record::Known {
+    name: Name { bytes: [0; 16] },
+    sort: Sort::Constant,
+    level: 0,
+    offset: 0,
+};

@@ -1,22 +1,23 @@
 ghost use mathlib.Core.Path.{_≡_};
 ghost use Rattle.lang.specs.Stacks.{room};
+use crate::lookup::in_frame;
+use crate::record::Record;
+use crate::record::Sort;
+use crate::view::calls::routine_below;
 use lang::instruction::Binding;
 use lang::name::Name;
+use lang::narrow::byte;
+use lang::narrow::short;
 use lang::refusal::Refusal;
 use lang::refusal::Refused;
 use lang::sheet::Mark;
 use lang::sheet::Sheet;
 use lang::stack::Stack;
 use reader::tree::Tree;
-use crate::lookup::in_frame;
-use lang::narrow::byte;
-use lang::narrow::short;
-use crate::record::Record;
-use crate::record::Sort;
-use crate::view::calls::routine_below;
 
 // The most names of a block, and the most parameters of a routine.
 pub const MOST_SLOTS: usize = 64;
+
 pub const MOST_PARAMS: usize = 8;
 
 // The sheet's names: its frame is the outermost.
@@ -30,7 +31,12 @@ pub fn push_sheet(sheet: &Sheet, names: &mut Stack<Record>)
                 Mark::Kept => Sort::Variable,
             };
             // there is room: 32 entries at most
-            let _ = names.push(Record::Known { name: entry.name, sort, level: 0, offset: byte(i) });
+            let _ = names.push(Record::Known {
+                name: entry.name,
+                sort,
+                level: 0,
+                offset: byte(i),
+            });
         }
     }
 }
@@ -39,7 +45,12 @@ pub fn push_sheet(sheet: &Sheet, names: &mut Stack<Record>)
 pub fn push_let(names: &mut Stack<Record>, name: Name, level: usize)
     ensures { λ _. ⌜ room (now (names .exit)) ≡ room (now (names .entry)) ⌝ }
 {
-    let _ = names.push(Record::Known { name, sort: Sort::Constant, level: byte(level), offset: 0 });
+    let _ = names.push(Record::Known {
+        name,
+        sort: Sort::Constant,
+        level: byte(level),
+        offset: 0,
+    });
 }
 
 pub fn datum_sort(binding: Binding) -> Sort {
@@ -68,11 +79,20 @@ pub fn declare(
         return least;
     }
     let level = byte(level);
-    let counted = if slot == most { note_many(least, at) } else { least };
+    let counted = if slot == most {
+        note_many(least, at)
+    } else {
+        least
+    };
     if in_frame(tree, names, name, level) {
         return crate::violation::note(counted, at, Refusal::NameTwice);
     }
-    let _ = names.push(Record::Known { name, sort, level, offset: byte(slot) });
+    let _ = names.push(Record::Known {
+        name,
+        sort,
+        level,
+        offset: byte(slot),
+    });
     counted
 }
 
@@ -98,8 +118,22 @@ pub fn declare_routines(
         return least;
     };
     let before = declare_routines(tree, start, r.start, level, names, least);
-    let sort = if r.function { Sort::Function(r.count) } else { Sort::Procedure(r.count) };
-    declare(tree, names, r.name, sort, level, r.slot as usize, MOST_SLOTS, r.at, before)
+    let sort = if r.function {
+        Sort::Function(r.count)
+    } else {
+        Sort::Procedure(r.count)
+    };
+    declare(
+        tree,
+        names,
+        r.name,
+        sort,
+        level,
+        r.slot as usize,
+        MOST_SLOTS,
+        r.at,
+        before,
+    )
 }
 
 // In a block with too many names, one record stands for all its routines: those past the most are called
@@ -108,7 +142,11 @@ pub fn push_rest(names: &mut Stack<Record>, count: u16, level: usize, start: usi
     ensures { λ _. ⌜ room (now (names .exit)) ≡ room (now (names .entry)) ⌝ }
 {
     if count as usize > MOST_SLOTS {
-        let _ = names.push(Record::Rest { level: byte(level), start: short(start), end: short(end) });
+        let _ = names.push(Record::Rest {
+            level: byte(level),
+            start: short(start),
+            end: short(end),
+        });
     }
 }
 
@@ -128,7 +166,17 @@ pub fn push_params(
     for i in 0..9 {
         if i < count as usize {
             let p = params[i];
-            least = declare(tree, names, p.name, Sort::Constant, level, i, MOST_PARAMS, p.at, least);
+            least = declare(
+                tree,
+                names,
+                p.name,
+                Sort::Constant,
+                level,
+                i,
+                MOST_PARAMS,
+                p.at,
+                least,
+            );
         }
     }
     least

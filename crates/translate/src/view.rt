@@ -8,13 +8,43 @@ pub mod calls;
 // An expression's node, with the numbers of the nodes it holds. `place` is its first byte.
 #[derive(Clone, Copy)]
 pub enum Expr {
-    Literal { place: u16, value: Value },
-    Read { place: u16, name: Name },
-    Unary { place: u16, op: Instruction, operand: usize },
-    Binary { place: u16, op: Instruction, left: usize, right: usize },
-    Choose { place: u16, test: usize, yes: usize, no: usize },
-    Let { place: u16, name: Name, value: usize, body: usize },
-    Call { place: u16, name: Name, count: u16, start: usize },
+    Literal {
+        place: u16,
+        value: Value,
+    },
+    Read {
+        place: u16,
+        name: Name,
+    },
+    Unary {
+        place: u16,
+        op: Instruction,
+        operand: usize,
+    },
+    Binary {
+        place: u16,
+        op: Instruction,
+        left: usize,
+        right: usize,
+    },
+    Choose {
+        place: u16,
+        test: usize,
+        yes: usize,
+        no: usize,
+    },
+    Let {
+        place: u16,
+        name: Name,
+        value: usize,
+        body: usize,
+    },
+    Call {
+        place: u16,
+        name: Name,
+        count: u16,
+        start: usize,
+    },
     Other,
 }
 
@@ -22,11 +52,36 @@ pub enum Expr {
 // to `commands`, then its commands.
 #[derive(Clone, Copy)]
 pub enum Command {
-    Assign { place: u16, name: Name, value: usize },
-    Do { place: u16, name: Name, at: u16, count: u16, start: usize },
-    If { place: u16, test: usize, yes: usize, no: usize },
-    While { place: u16, test: usize, body: usize },
-    Block { place: u16, count: u16, start: usize, routines: usize, commands: usize },
+    Assign {
+        place: u16,
+        name: Name,
+        value: usize,
+    },
+    Do {
+        place: u16,
+        name: Name,
+        at: u16,
+        count: u16,
+        start: usize,
+    },
+    If {
+        place: u16,
+        test: usize,
+        yes: usize,
+        no: usize,
+    },
+    While {
+        place: u16,
+        test: usize,
+        body: usize,
+    },
+    Block {
+        place: u16,
+        count: u16,
+        start: usize,
+        routines: usize,
+        commands: usize,
+    },
     Other,
 }
 

@@ -1,7 +1,7 @@
-use lang::refusal::Refusal;
-use lang::refusal::Refused;
 use crate::record::Found;
 use crate::record::Sort;
+use lang::refusal::Refusal;
+use lang::refusal::Refused;
 
 // One violation more: of all, the one with the earliest place is kept, then the one with the lowest number.
 pub fn note(least: Option<Refused>, place: u16, why: Refusal) -> Option<Refused> {
@@ -44,11 +44,20 @@ pub fn as_variable(found: Option<Found>, place: u16, least: Option<Refused>) -> 
 }
 
 fn with_count(declared: u16, count: u16, place: u16, least: Option<Refused>) -> Option<Refused> {
-    if declared == count { least } else { note(least, place, Refusal::WrongCount) }
+    if declared == count {
+        least
+    } else {
+        note(least, place, Refusal::WrongCount)
+    }
 }
 
 // A name is called in an expression: it has to be a function with that count of parameters.
-pub fn as_function(found: Option<Found>, count: u16, place: u16, least: Option<Refused>) -> Option<Refused> {
+pub fn as_function(
+    found: Option<Found>,
+    count: u16,
+    place: u16,
+    least: Option<Refused>,
+) -> Option<Refused> {
     match found {
         None => note(least, place, Refusal::NotVisible),
         Some(f) => match f.sort {
@@ -61,7 +70,12 @@ pub fn as_function(found: Option<Found>, count: u16, place: u16, least: Option<R
 }
 
 // A name is called by a command: it has to be a procedure with that count of parameters.
-pub fn as_procedure(found: Option<Found>, count: u16, place: u16, least: Option<Refused>) -> Option<Refused> {
+pub fn as_procedure(
+    found: Option<Found>,
+    count: u16,
+    place: u16,
+    least: Option<Refused>,
+) -> Option<Refused> {
     match found {
         None => note(least, place, Refusal::NotVisible),
         Some(f) => match f.sort {

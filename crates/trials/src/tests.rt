@@ -1,5 +1,9 @@
-use std::alloc::Global;
-use std::test::*;
+use crate::case::Case;
+use crate::examples;
+use crate::faults;
+use crate::grammar;
+use crate::names;
+use crate::words;
 use lang::refusal::RefusalDebug;
 use runner::example::example_sheet;
 use runner::listing::listing;
@@ -7,12 +11,8 @@ use runner::owned::UnjudgedDebug;
 use runner::owned::judge_over_chain;
 use runner::owned::judge_over_display;
 use runner::report::report;
-use crate::case::Case;
-use crate::examples;
-use crate::faults;
-use crate::grammar;
-use crate::names;
-use crate::words;
+use std::alloc::Global;
+use std::test::*;
 
 // The report of a text over the static chain.
 fn chain_report(heap: Global, text: &[u8]) -> Result<String, Fail> {
@@ -36,7 +36,14 @@ fn expect(heap: Global, text: &[u8], want: &str) -> Result<(), Fail> {
     check_eq(display.as_str(), want)
 }
 
-fn expect_all(heap: Global, cases: &[Case]) -> Result<(), Fail> {
+fn expect_plain(heap: Global, cases: &[(&str, &str)]) -> Result<(), Fail> {
+    for (text, want) in cases {
+        expect(heap, text.as_bytes(), want)?;
+    }
+    Ok(())
+}
+
+fn expect_built(heap: Global, cases: &[Case]) -> Result<(), Fail> {
     for case in cases {
         let text = case.text(heap)?;
         expect(heap, text.as_slice(), case.want)?;
@@ -46,27 +53,32 @@ fn expect_all(heap: Global, cases: &[Case]) -> Result<(), Fail> {
 
 #[test]
 fn worked_examples(rt: LibcRuntime) -> Result<(), Fail> {
-    expect_all(rt.alloc(), &examples::CASES)
+    expect_plain(rt.alloc(), &examples::PLAIN)?;
+    expect_built(rt.alloc(), &examples::BUILT)
 }
 
 #[test]
 fn words_at_their_edges(rt: LibcRuntime) -> Result<(), Fail> {
-    expect_all(rt.alloc(), &words::CASES)
+    expect_plain(rt.alloc(), &words::PLAIN)?;
+    expect_built(rt.alloc(), &words::BUILT)
 }
 
 #[test]
 fn grammar_at_its_edges(rt: LibcRuntime) -> Result<(), Fail> {
-    expect_all(rt.alloc(), &grammar::CASES)
+    expect_plain(rt.alloc(), &grammar::PLAIN)?;
+    expect_built(rt.alloc(), &grammar::BUILT)
 }
 
 #[test]
 fn names_at_their_edges(rt: LibcRuntime) -> Result<(), Fail> {
-    expect_all(rt.alloc(), &names::CASES)
+    expect_plain(rt.alloc(), &names::PLAIN)?;
+    expect_built(rt.alloc(), &names::BUILT)
 }
 
 #[test]
 fn faults_at_their_edges(rt: LibcRuntime) -> Result<(), Fail> {
-    expect_all(rt.alloc(), &faults::CASES)
+    expect_plain(rt.alloc(), &faults::PLAIN)?;
+    expect_built(rt.alloc(), &faults::BUILT)
 }
 
 // What becomes of a text of one byte: a space, a letter and an opening brace want more, the other marks and digits
@@ -91,7 +103,9 @@ fn every_byte(rt: LibcRuntime) -> Result<(), Fail> {
 }
 
 const HIDDEN_ENTRY: &str = "{ const days = days + 1; fee := days; }";
-const HIDDEN_CODE: &str = "0 18 1 0 0 0\n1 2 1 0 0 15\n2 1 0 1 0 22\n3 6 0 0 0 15\n4 19 0 0 0 2\n5 2 0 0 0 32\n6 26 1 1 0 25\n7 20 0 0 0 0\n";
+
+const HIDDEN_CODE: &str =
+    "0 18 1 0 0 0\n1 2 1 0 0 15\n2 1 0 1 0 22\n3 6 0 0 0 15\n4 19 0 0 0 2\n5 2 0 0 0 32\n6 26 1 1 0 25\n7 20 0 0 0 0\n";
 
 #[test]
 fn listings(rt: LibcRuntime) -> Result<(), Fail> {

@@ -17,7 +17,10 @@ pub const MOST_CODE: usize = 12288;
 
 impl<'m> Code<'m> {
     // No code, in memory for 12,288 instructions and places; 1 where either is shorter.
-    pub fn over(instructions: &'m mut [Instruction], places: &'m mut [u16]) -> Result<Code<'m>, Refusal>
+    pub fn over(
+        instructions: &'m mut [Instruction],
+        places: &'m mut [u16],
+    ) -> Result<Code<'m>, Refusal>
         ensures { λ r. ⌜ ByOk r
             (λ c. (shortCode (length (now (instructions .entry))) (length (now (places .entry))) ≡ false) × (instructionsOf c ≡ []) × (placesOf c ≡ []) × (codeRoom c ≡ length (now (instructions .entry))) × (placeRoom c ≡ length (now (places .entry))))
             (λ e. (shortCode (length (now (instructions .entry))) (length (now (places .entry))) ≡ true) × (number e ≡ 1)) ⌝ }
@@ -25,7 +28,10 @@ impl<'m> Code<'m> {
         if instructions.len() < MOST_CODE || places.len() < MOST_CODE {
             return Err(Refusal::ShortMemory);
         }
-        Ok(Code { instructions: Stack::over(instructions), places: Stack::over(places) })
+        Ok(Code {
+            instructions: Stack::over(instructions),
+            places: Stack::over(places),
+        })
     }
 
     // How many instructions there are.

@@ -18,7 +18,11 @@ use crate::sheet::entries::entry_of;
 use crate::sheet::entries::value_of;
 use crate::value::Value;
 
-const NO_ENTRY: Entry = Entry { name: Name { bytes: [0; 16] }, mark: Mark::Given, value: Value::Number(0) };
+const NO_ENTRY: Entry = Entry {
+    name: Name { bytes: [0; 16] },
+    mark: Mark::Given,
+    value: Value::Number(0),
+};
 
 impl Sheet {
     // The sheet with these entries; 2 for more than 32, for a bad, reserved or repeated name, and for a bad kind,
@@ -26,7 +30,10 @@ impl Sheet {
     pub fn new(entries: &[Described]) -> Result<Sheet, Refusal>
         ensures { λ r. ⌜ ByOk r (λ s. Some (entriesOf s) ≡ sheetFrom (now (entries .entry))) (λ e. (None ≡ sheetFrom (now (entries .entry))) × (numbered e ≡ 2)) ⌝ }
     {
-        let mut sheet = Sheet { entries: [NO_ENTRY; 32], count: 0 };
+        let mut sheet = Sheet {
+            entries: [NO_ENTRY; 32],
+            count: 0,
+        };
         for i in 0..entries.len() {
             if !sheet.add_described(entries[i]) {
                 return Err(Refusal::BadSheet);
@@ -42,7 +49,11 @@ impl Sheet {
         ensures few { λ r. ⌜ r ≤ 32 ⌝ }
     {
         let table: &[Entry] = &self.entries;
-        if self.count < table.len() { self.count } else { table.len() }
+        if self.count < table.len() {
+            self.count
+        } else {
+            table.len()
+        }
     }
 
     // The entry with a number.
@@ -51,7 +62,11 @@ impl Sheet {
         ensures within { λ r. ⌜ (isSome r ≡ true → number < 32) ⌝ }
     {
         let table: &[Entry] = &self.entries;
-        if number < self.count && number < table.len() { Some(table[number]) } else { None }
+        if number < self.count && number < table.len() {
+            Some(table[number])
+        } else {
+            None
+        }
     }
 
     // Whether the entry with a number has the name.
@@ -109,7 +124,11 @@ impl Sheet {
         if !entry.value.alike(value) {
             return Err(Refusal::BadEntry);
         }
-        self.entries[number] = Entry { name: entry.name, mark: entry.mark, value };
+        self.entries[number] = Entry {
+            name: entry.name,
+            mark: entry.mark,
+            value,
+        };
         Ok(())
     }
 
@@ -120,7 +139,11 @@ impl Sheet {
         let Some(entry) = self.entry(number) else {
             return;
         };
-        self.entries[number] = Entry { name: entry.name, mark: entry.mark, value };
+        self.entries[number] = Entry {
+            name: entry.name,
+            mark: entry.mark,
+            value,
+        };
     }
 
     // The same as `set` by a kind and a number, as the host gives them; 19 for a bad kind or value too.

@@ -89,7 +89,11 @@ pub fn entry_of(d: Described) -> Option<Entry>
         return None;
     }
     match (mark_of(d.mark), value_of(d.kind, d.value)) {
-        (Some(mark), Some(value)) => Some(Entry { name: Name::of(d.name), mark, value }),
+        (Some(mark), Some(value)) => Some(Entry {
+            name: Name::of(d.name),
+            mark,
+            value,
+        }),
         _ => None,
     }
 }

@@ -11,7 +11,11 @@ use crate::stack::Stack;
 fn cell<T: Copy>(cells: &[T], i: usize) -> Option<T>
     ensures { λ r. ⌜ r ≡ nth (now (cells .entry)) i ⌝ }
 {
-    if i < cells.len() { Some(cells[i]) } else { None }
+    if i < cells.len() {
+        Some(cells[i])
+    } else {
+        None
+    }
 }
 
 impl<'m, T: Copy> Stack<'m, T> {
@@ -28,7 +32,11 @@ impl<'m, T: Copy> Stack<'m, T> {
         ensures within { λ r. ⌜ r ≤ length (behind (now (self .entry) .cells)) ⌝ }
         ensures front { λ r. ⌜ take r (behind (now (self .entry) .cells)) ≡ held (now (self .entry)) ⌝ }
     {
-        if self.used < self.cells.len() { self.used } else { self.cells.len() }
+        if self.used < self.cells.len() {
+            self.used
+        } else {
+            self.cells.len()
+        }
     }
 
     // How many it can hold.
@@ -76,7 +84,11 @@ impl<'m, T: Copy> Stack<'m, T> {
     pub fn get(&self, i: usize) -> Option<T>
         ensures { λ r. ⌜ r ≡ nth (held (now (self .entry))) i ⌝ }
     {
-        if i < self.used { cell(self.cells, i) } else { None }
+        if i < self.used {
+            cell(self.cells, i)
+        } else {
+            None
+        }
     }
 
     // Changes the one at an index; nothing where there is none.

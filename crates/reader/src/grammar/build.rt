@@ -5,8 +5,8 @@ use crate::node::NO_INFO;
 use crate::node::NO_PARAM;
 use crate::node::Node;
 use crate::node::Param;
-use lang::narrow::short;
 use crate::tree::Tree;
+use lang::narrow::short;
 
 // The parameters of a routine: the first nine, and how many there are.
 #[derive(Clone, Copy)]

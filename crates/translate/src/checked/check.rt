@@ -1,10 +1,5 @@
 ghost use mathlib.Core.Path.{_≡_};
 ghost use Rattle.lang.specs.Stacks.{room};
-use lang::refusal::Refusal;
-use lang::refusal::Refused;
-use lang::sheet::Sheet;
-use lang::stack::Stack;
-use reader::tree::Tree;
 use crate::checked::Checked;
 use crate::lookup::look_up;
 use crate::record::Record;
@@ -29,12 +24,21 @@ use crate::violation::as_procedure;
 use crate::violation::as_value;
 use crate::violation::as_variable;
 use crate::violation::note;
+use lang::refusal::Refusal;
+use lang::refusal::Refused;
+use lang::sheet::Sheet;
+use lang::stack::Stack;
+use reader::tree::Tree;
 
 // The most frames that stand inside one another, the sheet's included.
 const MOST_FRAMES: usize = 16;
 
 // The tree with its names checked over the sheet, or the violation with the earliest place, then the lowest number.
-pub fn check<'a, 'm>(tree: &'a Tree<'m>, sheet: &Sheet, names: &mut Stack<Record>) -> Result<Checked<'a, 'm>, Refused>
+pub fn check<'a, 'm>(
+    tree: &'a Tree<'m>,
+    sheet: &Sheet,
+    names: &mut Stack<Record>,
+) -> Result<Checked<'a, 'm>, Refused>
     ensures { λ _. ⌜ room (now (names .exit)) ≡ room (now (names .entry)) ⌝ }
 {
     names.clear();
@@ -52,7 +56,13 @@ pub fn check<'a, 'm>(tree: &'a Tree<'m>, sheet: &Sheet, names: &mut Stack<Record
 }
 
 // The names of the expression at a node, where `depth` frames stand.
-fn check_expr(tree: &Tree, n: usize, depth: usize, names: &mut Stack<Record>, least: Option<Refused>) -> Option<Refused>
+fn check_expr(
+    tree: &Tree,
+    n: usize,
+    depth: usize,
+    names: &mut Stack<Record>,
+    least: Option<Refused>,
+) -> Option<Refused>
     ensures { λ _. ⌜ room (now (names .exit)) ≡ room (now (names .entry)) ⌝ }
 {
     match expr_at(tree, n) {
@@ -68,7 +78,12 @@ fn check_expr(tree: &Tree, n: usize, depth: usize, names: &mut Stack<Record>, le
             let b = check_expr(tree, yes, depth, names, a);
             check_expr(tree, no, depth, names, b)
         }
-        Expr::Let { place, name, value, body } => {
+        Expr::Let {
+            place,
+            name,
+            value,
+            body,
+        } => {
             if depth >= MOST_FRAMES {
                 return note(least, place, Refusal::ScopesTooDeep);
             }
@@ -79,7 +94,12 @@ fn check_expr(tree: &Tree, n: usize, depth: usize, names: &mut Stack<Record>, le
             names.truncate(old);
             b
         }
-        Expr::Call { place, name, count, start } => {
+        Expr::Call {
+            place,
+            name,
+            count,
+            start,
+        } => {
             let a = as_function(look_up(tree, names, name), count, place, least);
             check_args(tree, start, n, depth, names, a)
         }
@@ -89,7 +109,14 @@ fn check_expr(tree: &Tree, n: usize, depth: usize, names: &mut Stack<Record>, le
 }
 
 // The args among the nodes from `start` up to `end`.
-fn check_args(tree: &Tree, start: usize, end: usize, depth: usize, names: &mut Stack<Record>, least: Option<Refused>) -> Option<Refused>
+fn check_args(
+    tree: &Tree,
+    start: usize,
+    end: usize,
+    depth: usize,
+    names: &mut Stack<Record>,
+    least: Option<Refused>,
+) -> Option<Refused>
     ensures { λ _. ⌜ room (now (names .exit)) ≡ room (now (names .entry)) ⌝ }
 {
     if start >= end {
@@ -103,7 +130,14 @@ fn check_args(tree: &Tree, start: usize, end: usize, depth: usize, names: &mut S
 }
 
 // The data among the nodes from `start` up to `end`: each sees those before it, and their names stay.
-fn check_data(tree: &Tree, start: usize, end: usize, depth: usize, names: &mut Stack<Record>, least: Option<Refused>) -> Option<Refused>
+fn check_data(
+    tree: &Tree,
+    start: usize,
+    end: usize,
+    depth: usize,
+    names: &mut Stack<Record>,
+    least: Option<Refused>,
+) -> Option<Refused>
     ensures { λ _. ⌜ room (now (names .exit)) ≡ room (now (names .entry)) ⌝ }
 {
     if start >= end {
@@ -114,10 +148,26 @@ fn check_data(tree: &Tree, start: usize, end: usize, depth: usize, names: &mut S
     };
     let a = check_data(tree, start, d.start, depth, names, least);
     let b = check_expr(tree, d.value, depth, names, a);
-    declare(tree, names, d.name, datum_sort(d.binding), depth.saturating_sub(1), d.slot as usize, MOST_SLOTS, d.at, b)
+    declare(
+        tree,
+        names,
+        d.name,
+        datum_sort(d.binding),
+        depth.saturating_sub(1),
+        d.slot as usize,
+        MOST_SLOTS,
+        d.at,
+        b,
+    )
 }
 
-fn check_command(tree: &Tree, n: usize, depth: usize, names: &mut Stack<Record>, least: Option<Refused>) -> Option<Refused>
+fn check_command(
+    tree: &Tree,
+    n: usize,
+    depth: usize,
+    names: &mut Stack<Record>,
+    least: Option<Refused>,
+) -> Option<Refused>
     ensures { λ _. ⌜ room (now (names .exit)) ≡ room (now (names .entry)) ⌝ }
 {
     match command_at(tree, n) {
@@ -125,7 +175,13 @@ fn check_command(tree: &Tree, n: usize, depth: usize, names: &mut Stack<Record>,
             let a = as_variable(look_up(tree, names, name), place, least);
             check_expr(tree, value, depth, names, a)
         }
-        Command::Do { name, at, count, start, .. } => {
+        Command::Do {
+            name,
+            at,
+            count,
+            start,
+            ..
+        } => {
             let a = as_procedure(look_up(tree, names, name), count, at, least);
             check_args(tree, start, n, depth, names, a)
         }
@@ -138,7 +194,13 @@ fn check_command(tree: &Tree, n: usize, depth: usize, names: &mut Stack<Record>,
             let a = check_expr(tree, test, depth, names, least);
             check_command(tree, body, depth, names, a)
         }
-        Command::Block { place, count, start, routines, commands } => {
+        Command::Block {
+            place,
+            count,
+            start,
+            routines,
+            commands,
+        } => {
             if depth >= MOST_FRAMES {
                 return note(least, place, Refusal::ScopesTooDeep);
             }
@@ -157,7 +219,14 @@ fn check_command(tree: &Tree, n: usize, depth: usize, names: &mut Stack<Record>,
 }
 
 // The commands among the nodes from `start` up to `end`.
-fn check_commands(tree: &Tree, start: usize, end: usize, depth: usize, names: &mut Stack<Record>, least: Option<Refused>) -> Option<Refused>
+fn check_commands(
+    tree: &Tree,
+    start: usize,
+    end: usize,
+    depth: usize,
+    names: &mut Stack<Record>,
+    least: Option<Refused>,
+) -> Option<Refused>
     ensures { λ _. ⌜ room (now (names .exit)) ≡ room (now (names .entry)) ⌝ }
 {
     if start >= end {
@@ -171,7 +240,14 @@ fn check_commands(tree: &Tree, start: usize, end: usize, depth: usize, names: &m
 }
 
 // The bodies of the routines among the nodes from `start` up to `end`.
-fn check_routines(tree: &Tree, start: usize, end: usize, depth: usize, names: &mut Stack<Record>, least: Option<Refused>) -> Option<Refused>
+fn check_routines(
+    tree: &Tree,
+    start: usize,
+    end: usize,
+    depth: usize,
+    names: &mut Stack<Record>,
+    least: Option<Refused>,
+) -> Option<Refused>
     ensures { λ _. ⌜ room (now (names .exit)) ≡ room (now (names .entry)) ⌝ }
 {
     if start >= end {
@@ -188,7 +264,13 @@ fn check_routines(tree: &Tree, start: usize, end: usize, depth: usize, names: &m
 }
 
 // A routine's parameters and its body.
-fn check_body(tree: &Tree, r: Routine, depth: usize, names: &mut Stack<Record>, least: Option<Refused>) -> Option<Refused>
+fn check_body(
+    tree: &Tree,
+    r: Routine,
+    depth: usize,
+    names: &mut Stack<Record>,
+    least: Option<Refused>,
+) -> Option<Refused>
     ensures { λ _. ⌜ room (now (names .exit)) ≡ room (now (names .entry)) ⌝ }
 {
     let old = names.len();

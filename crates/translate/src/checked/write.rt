@@ -3,17 +3,8 @@ ghost use lib.ListN.{length};
 ghost use Rattle.lang.specs.Codes.{instructionsOf};
 ghost use Rattle.lang.specs.Stacks.{room};
 ghost use Rattle.translate.specs.Rooms.{SameRoom};
-use lang::code::Code;
-use lang::instruction::Binding;
-use lang::instruction::Instruction;
-use lang::name::Name;
-use lang::sheet::Sheet;
-use lang::stack::Stack;
-use reader::tree::Tree;
 use crate::checked::Checked;
 use crate::lookup::look_up;
-use lang::narrow::byte;
-use lang::narrow::short;
 use crate::record::Record;
 use crate::scope::MOST_SLOTS;
 use crate::scope::datum_sort;
@@ -31,9 +22,23 @@ use crate::view::calls::datum_below;
 use crate::view::calls::expr_at;
 use crate::view::calls::last;
 use crate::view::calls::routine_below;
+use lang::code::Code;
+use lang::instruction::Binding;
+use lang::instruction::Instruction;
+use lang::name::Name;
+use lang::narrow::byte;
+use lang::narrow::short;
+use lang::sheet::Sheet;
+use lang::stack::Stack;
+use reader::tree::Tree;
 
 // Writes the code of a checked tree from position 0, and answers its length.
-pub fn translate(checked: Checked, sheet: &Sheet, names: &mut Stack<Record>, code: &mut Code) -> usize
+pub fn translate(
+    checked: Checked,
+    sheet: &Sheet,
+    names: &mut Stack<Record>,
+    code: &mut Code,
+) -> usize
     ensures names { λ _. ⌜ room (now (names .exit)) ≡ room (now (names .entry)) ⌝ }
     ensures code { λ _. ⌜ SameRoom (now (code .entry)) (now (code .exit)) ⌝ }
     ensures length { λ r. ⌜ r ≡ length (instructionsOf (now (code .exit))) ⌝ }
@@ -51,7 +56,10 @@ pub fn translate(checked: Checked, sheet: &Sheet, names: &mut Stack<Record>, cod
 // The hops and the offset of a name, where `depth` frames stand. A checked name is always found.
 fn pair(tree: &Tree, names: &Stack<Record>, name: Name, depth: usize) -> (u8, u8) {
     match look_up(tree, names, name) {
-        Some(found) => (byte(depth.saturating_sub(1).saturating_sub(found.level as usize)), found.offset),
+        Some(found) => (
+            byte(depth.saturating_sub(1).saturating_sub(found.level as usize)),
+            found.offset,
+        ),
         None => (0, 0),
     }
 }
@@ -82,12 +90,22 @@ fn write_expr(tree: &Tree, n: usize, depth: usize, names: &mut Stack<Record>, co
             write_expr(tree, operand, depth, names, code);
             emit(code, op, place);
         }
-        Expr::Binary { place, op, left, right } => {
+        Expr::Binary {
+            place,
+            op,
+            left,
+            right,
+        } => {
             write_expr(tree, left, depth, names, code);
             write_expr(tree, right, depth, names, code);
             emit(code, op, place);
         }
-        Expr::Choose { place, test, yes, no } => {
+        Expr::Choose {
+            place,
+            test,
+            yes,
+            no,
+        } => {
             write_expr(tree, test, depth, names, code);
             let pick = code.len();
             emit(code, Instruction::Pick { by: 0 }, place);
@@ -100,27 +118,59 @@ fn write_expr(tree: &Tree, n: usize, depth: usize, names: &mut Stack<Record>, co
             let by = distance(code, skip);
             code.patch(skip, Instruction::Skip { by });
         }
-        Expr::Let { place, name, value, body } => {
+        Expr::Let {
+            place,
+            name,
+            value,
+            body,
+        } => {
             emit(code, Instruction::Let, place);
             write_expr(tree, value, depth.saturating_add(1), names, code);
-            emit(code, Instruction::Fill { offset: 0, binding: Binding::Constant }, place);
+            emit(
+                code,
+                Instruction::Fill {
+                    offset: 0,
+                    binding: Binding::Constant,
+                },
+                place,
+            );
             let old = names.len();
             push_let(names, name, depth);
             write_expr(tree, body, depth.saturating_add(1), names, code);
             names.truncate(old);
             emit(code, Instruction::Shut, place);
         }
-        Expr::Call { place, name, count, start } => {
+        Expr::Call {
+            place,
+            name,
+            count,
+            start,
+        } => {
             write_args(tree, start, n, depth, names, code);
             let (hops, offset) = pair(tree, names, name, depth);
-            emit(code, Instruction::Call { hops, offset, count: byte(count as usize) }, place);
+            emit(
+                code,
+                Instruction::Call {
+                    hops,
+                    offset,
+                    count: byte(count as usize),
+                },
+                place,
+            );
         }
         // no expression's node
         Expr::Other => {}
     }
 }
 
-fn write_args(tree: &Tree, start: usize, end: usize, depth: usize, names: &mut Stack<Record>, code: &mut Code)
+fn write_args(
+    tree: &Tree,
+    start: usize,
+    end: usize,
+    depth: usize,
+    names: &mut Stack<Record>,
+    code: &mut Code,
+)
     ensures names { λ _. ⌜ room (now (names .exit)) ≡ room (now (names .entry)) ⌝ }
     ensures code { λ _. ⌜ SameRoom (now (code .entry)) (now (code .exit)) ⌝ }
 {
@@ -135,7 +185,14 @@ fn write_args(tree: &Tree, start: usize, end: usize, depth: usize, names: &mut S
 }
 
 // The data among the nodes from `start` up to `end`; their names stay.
-fn write_data(tree: &Tree, start: usize, end: usize, depth: usize, names: &mut Stack<Record>, code: &mut Code)
+fn write_data(
+    tree: &Tree,
+    start: usize,
+    end: usize,
+    depth: usize,
+    names: &mut Stack<Record>,
+    code: &mut Code,
+)
     ensures names { λ _. ⌜ room (now (names .exit)) ≡ room (now (names .entry)) ⌝ }
     ensures code { λ _. ⌜ SameRoom (now (code .entry)) (now (code .exit)) ⌝ }
 {
@@ -154,9 +211,26 @@ fn write_datum(tree: &Tree, d: Datum, depth: usize, names: &mut Stack<Record>, c
     ensures code { λ _. ⌜ SameRoom (now (code .entry)) (now (code .exit)) ⌝ }
 {
     write_expr(tree, d.value, depth, names, code);
-    emit(code, Instruction::Fill { offset: byte(d.slot as usize), binding: d.binding }, d.place);
+    emit(
+        code,
+        Instruction::Fill {
+            offset: byte(d.slot as usize),
+            binding: d.binding,
+        },
+        d.place,
+    );
     let level = depth.saturating_sub(1);
-    let _ = declare(tree, names, d.name, datum_sort(d.binding), level, d.slot as usize, MOST_SLOTS, d.at, None);
+    let _ = declare(
+        tree,
+        names,
+        d.name,
+        datum_sort(d.binding),
+        level,
+        d.slot as usize,
+        MOST_SLOTS,
+        d.at,
+        None,
+    );
 }
 
 fn write_command(tree: &Tree, n: usize, depth: usize, names: &mut Stack<Record>, code: &mut Code)
@@ -169,12 +243,31 @@ fn write_command(tree: &Tree, n: usize, depth: usize, names: &mut Stack<Record>,
             let (hops, offset) = pair(tree, names, name, depth);
             emit(code, Instruction::Store { hops, offset }, place);
         }
-        Command::Do { place, name, count, start, .. } => {
+        Command::Do {
+            place,
+            name,
+            count,
+            start,
+            ..
+        } => {
             write_args(tree, start, n, depth, names, code);
             let (hops, offset) = pair(tree, names, name, depth);
-            emit(code, Instruction::Do { hops, offset, count: byte(count as usize) }, place);
+            emit(
+                code,
+                Instruction::Do {
+                    hops,
+                    offset,
+                    count: byte(count as usize),
+                },
+                place,
+            );
         }
-        Command::If { place, test, yes, no } => {
+        Command::If {
+            place,
+            test,
+            yes,
+            no,
+        } => {
             write_expr(tree, test, depth, names, code);
             let fork = code.len();
             emit(code, Instruction::Fork { by: 0 }, place);
@@ -198,10 +291,22 @@ fn write_command(tree: &Tree, n: usize, depth: usize, names: &mut Stack<Record>,
             let by = distance(code, leave);
             code.patch(leave, Instruction::Leave { by });
         }
-        Command::Block { place, count, start, routines, commands } => {
+        Command::Block {
+            place,
+            count,
+            start,
+            routines,
+            commands,
+        } => {
             let inside = depth.saturating_add(1);
             let old = names.len();
-            emit(code, Instruction::Open { slots: byte(count as usize) }, place);
+            emit(
+                code,
+                Instruction::Open {
+                    slots: byte(count as usize),
+                },
+                place,
+            );
             write_data(tree, start, routines, inside, names, code);
             let _ = declare_routines(tree, routines, commands, depth, names, None);
             write_routines(tree, routines, commands, inside, names, code);
@@ -214,7 +319,14 @@ fn write_command(tree: &Tree, n: usize, depth: usize, names: &mut Stack<Record>,
     }
 }
 
-fn write_commands(tree: &Tree, start: usize, end: usize, depth: usize, names: &mut Stack<Record>, code: &mut Code)
+fn write_commands(
+    tree: &Tree,
+    start: usize,
+    end: usize,
+    depth: usize,
+    names: &mut Stack<Record>,
+    code: &mut Code,
+)
     ensures names { λ _. ⌜ room (now (names .exit)) ≡ room (now (names .entry)) ⌝ }
     ensures code { λ _. ⌜ SameRoom (now (code .entry)) (now (code .exit)) ⌝ }
 {
@@ -228,7 +340,14 @@ fn write_commands(tree: &Tree, start: usize, end: usize, depth: usize, names: &m
     write_command(tree, n, depth, names, code);
 }
 
-fn write_routines(tree: &Tree, start: usize, end: usize, depth: usize, names: &mut Stack<Record>, code: &mut Code)
+fn write_routines(
+    tree: &Tree,
+    start: usize,
+    end: usize,
+    depth: usize,
+    names: &mut Stack<Record>,
+    code: &mut Code,
+)
     ensures names { λ _. ⌜ room (now (names .exit)) ≡ room (now (names .entry)) ⌝ }
     ensures code { λ _. ⌜ SameRoom (now (code .entry)) (now (code .exit)) ⌝ }
 {
@@ -246,7 +365,11 @@ fn write_routines(tree: &Tree, start: usize, end: usize, depth: usize, names: &m
 fn declares(r: Routine, by: u16) -> Instruction {
     let offset = byte(r.slot as usize);
     let count = byte(r.count as usize);
-    if r.function { Instruction::Fun { offset, by, count } } else { Instruction::Proc { offset, by, count } }
+    if r.function {
+        Instruction::Fun { offset, by, count }
+    } else {
+        Instruction::Proc { offset, by, count }
+    }
 }
 
 fn write_routine(tree: &Tree, r: Routine, depth: usize, names: &mut Stack<Record>, code: &mut Code)

@@ -1,15 +1,15 @@
 ghost use Prim.Native.Nat.{_+_, _<_, _≤_};
 ghost use mathlib.Core.Path.{_≡_};
 ghost use Rattle.translate.specs.Views.{FallsLast, FallsTwo, FallsThree, FallsExpr, FallsCommand, FallsDatum, FallsRoutine};
+use crate::view::Command;
+use crate::view::Datum;
+use crate::view::Expr;
+use crate::view::Routine;
 use lang::instruction::Binding;
 use lang::instruction::Instruction;
 use lang::value::Value;
 use reader::node::Label;
 use reader::tree::Tree;
-use crate::view::Command;
-use crate::view::Datum;
-use crate::view::Expr;
-use crate::view::Routine;
 
 // The last node below a number: where its own nodes start, and its number.
 pub fn last(tree: &Tree, end: usize) -> Option<(usize, usize)>
@@ -19,7 +19,11 @@ pub fn last(tree: &Tree, end: usize) -> Option<(usize, usize)>
         return None;
     }
     let start = tree.node(end - 1).start as usize;
-    if start < end { Some((start, end - 1)) } else { None }
+    if start < end {
+        Some((start, end - 1))
+    } else {
+        None
+    }
 }
 
 // The two nodes that end below a number.
@@ -53,7 +57,12 @@ fn binary(tree: &Tree, n: usize, place: u16, op: Instruction) -> Expr
     ensures { λ r. ⌜ FallsExpr n r ⌝ }
 {
     match two(tree, n) {
-        Some((left, right)) => Expr::Binary { place, op, left, right },
+        Some((left, right)) => Expr::Binary {
+            place,
+            op,
+            left,
+            right,
+        },
         None => Expr::Other,
     }
 }
@@ -66,10 +75,21 @@ pub fn expr_at(tree: &Tree, n: usize) -> Expr
     let place = node.info.place;
     let name = node.info.name;
     match node.info.label {
-        Label::Number(z) => Expr::Literal { place, value: Value::Number(z) },
-        Label::Truth(b) => Expr::Literal { place, value: Value::Truth(b) },
+        Label::Number(z) => Expr::Literal {
+            place,
+            value: Value::Number(z),
+        },
+        Label::Truth(b) => Expr::Literal {
+            place,
+            value: Value::Truth(b),
+        },
         Label::Read => Expr::Read { place, name },
-        Label::Call => Expr::Call { place, name, count: node.info.count, start: node.start as usize },
+        Label::Call => Expr::Call {
+            place,
+            name,
+            count: node.info.count,
+            start: node.start as usize,
+        },
         Label::Minus => unary(tree, n, place, Instruction::Minus),
         Label::Not => unary(tree, n, place, Instruction::Not),
         Label::Add => binary(tree, n, place, Instruction::Add),
@@ -80,11 +100,21 @@ pub fn expr_at(tree: &Tree, n: usize) -> Expr
         Label::And => binary(tree, n, place, Instruction::And),
         Label::Or => binary(tree, n, place, Instruction::Or),
         Label::Choose => match three(tree, n) {
-            Some((test, yes, no)) => Expr::Choose { place, test, yes, no },
+            Some((test, yes, no)) => Expr::Choose {
+                place,
+                test,
+                yes,
+                no,
+            },
             None => Expr::Other,
         },
         Label::Let => match two(tree, n) {
-            Some((value, body)) => Expr::Let { place, name, value, body },
+            Some((value, body)) => Expr::Let {
+                place,
+                name,
+                value,
+                body,
+            },
             None => Expr::Other,
         },
         _ => Expr::Other,
@@ -104,9 +134,20 @@ pub fn command_at(tree: &Tree, n: usize) -> Command
             Some((_, value)) => Command::Assign { place, name, value },
             None => Command::Other,
         },
-        Label::Do => Command::Do { place, name, at: node.info.at, count: node.info.count, start },
+        Label::Do => Command::Do {
+            place,
+            name,
+            at: node.info.at,
+            count: node.info.count,
+            start,
+        },
         Label::If => match three(tree, n) {
-            Some((test, yes, no)) => Command::If { place, test, yes, no },
+            Some((test, yes, no)) => Command::If {
+                place,
+                test,
+                yes,
+                no,
+            },
             None => Command::Other,
         },
         Label::While => match two(tree, n) {
@@ -116,7 +157,13 @@ pub fn command_at(tree: &Tree, n: usize) -> Command
         Label::Block => {
             let commands = n.saturating_sub(node.info.commands as usize);
             let routines = commands.saturating_sub(node.info.routines as usize);
-            Command::Block { place, count: node.info.count, start, routines, commands }
+            Command::Block {
+                place,
+                count: node.info.count,
+                start,
+                routines,
+                commands,
+            }
         }
         _ => Command::Other,
     }
@@ -133,7 +180,15 @@ pub fn datum_below(tree: &Tree, end: usize) -> Option<Datum>
         Label::Var => Binding::Variable,
         _ => Binding::Constant,
     };
-    Some(Datum { start, value, binding, place: info.place, name: info.name, at: info.at, slot: info.slot })
+    Some(Datum {
+        start,
+        value,
+        binding,
+        place: info.place,
+        name: info.name,
+        at: info.at,
+        slot: info.slot,
+    })
 }
 
 // The last routine below a number.

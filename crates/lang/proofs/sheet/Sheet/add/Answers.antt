@@ -13,4 +13,4 @@ returns c =
     let m = c .args .self .now in
     let h : c .len-at .result < length (m .entries) = omega arith in
     added-one (entriesOf m) _ (c .args .entry) (omega (arith, c .len-at .ensures .value)) (c .if-has .ensures tt)
-      (take-more-set (m .entries) (c .len-at .result) (c .args .entry) h ∙ ap (λ l. l ++ (c .args .entry ∷ [])) (c .len-at .ensures .front))
+    (take-more-set (m .entries) (c .len-at .result) (c .args .entry) h ∙ ap (λ l. l ++ (c .args .entry ∷ [])) (c .len-at .ensures .front))

@@ -14,5 +14,8 @@ returns-then-number-table c =
 
 pub returns-else-number-self : need.returns-else-number-self
 returns-else-number-self c =
-    record { value = ⊎-elim (λ h. sym (nth-short (c .args .self .now .count) (c .args .self .now .entries) (c .args .number) (h .1)))
-    (λ h. sym (nth-taken (c .args .self .now .count) (c .args .self .now .entries) (c .args .number) h)) (c .else-number-self .either); within = λ e. absurd (clash e) }
+    record {
+      value = ⊎-elim (λ h. sym (nth-short (c .args .self .now .count) (c .args .self .now .entries) (c .args .number) (h .1)))
+          (λ h. sym (nth-taken (c .args .self .now .count) (c .args .self .now .entries) (c .args .number) h)) (c .else-number-self .either);
+      within = λ e. absurd (clash e);
+    }

@@ -10,10 +10,11 @@ use Rattle.lang.proofs.stack.Stack.wipe.Needs as need
 
 pub loop-i-again : need.loop-i-again
 loop-i-again g c =
-    let xs = now (c .loop-i .self .cells) in
-    ( c .loop-i .inv .0
-    , length-set _ _ _ ∙ c .loop-i .inv .1
-    , wiped-more xs (c .loop-i .i) (c .args .x) (omega (arith, c .loop-i .inv .1)) (c .loop-i .inv .2) )
+    let xs = now (c .loop-i .self .cells) in (
+      c .loop-i .inv .0,
+      length-set _ _ _ ∙ c .loop-i .inv .1,
+      wiped-more xs (c .loop-i .i) (c .args .x) (omega (arith, c .loop-i .inv .1)) (c .loop-i .inv .2),
+    )
 
 pub returns : need.returns
 returns g c =
