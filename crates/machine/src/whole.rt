@@ -55,7 +55,11 @@ fn settle<F: BuildFrames + Drop>(outcome: Outcome, machine: &Machine<F>, sheet: 
 
 // Runs code over a sheet, to its end or its fault, and settles the entries. No frame stands afterwards.
 // With the code of a rule this is what the rule means.
-pub fn run_over<F: BuildFrames + Drop>(machine: &mut Machine<F>, code: &Code, sheet: &mut Sheet) -> Result<Ran, Refusal>
+pub fn run_over<F: BuildFrames + Drop>(
+    machine: &mut Machine<F>,
+    code: &Code,
+    sheet: &mut Sheet,
+) -> Result<Ran, Refusal>
     ensures { λ r. ⌜ Means (F·ReadFrames .sound) (F·ReadFrames .frames) (now (code .entry)) (entriesOf (now (sheet .entry))) (entriesOf (now (sheet .exit))) (now (machine .entry)) (now (machine .exit)) r ⌝ }
 {
     let mut table = [Value::Number(0); 32];

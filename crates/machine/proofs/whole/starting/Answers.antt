@@ -14,9 +14,9 @@ loop-i-again c =
     let i = c .loop-i .i in
     elim (c .match-entry .came) [
       | need.in-Some w ↦
-        let e = w .in-Some .entry in
-        let h : i < length (c .loop-i .table) = omega (arith, c .loop-i .inv .0, c .len-count .ensures .few) in
-        (ap length (w .table-is) ∙ simp length-set (c .loop-i .inv .0), ap (take (i + 1)) (w .table-is) ∙ take-more-set (c .loop-i .table) i (e .value) h ∙ ap (λ vs. vs ++ (e .value ∷ [])) (c .loop-i .inv .1) ∙ values-more es i e (w .in-Some .ensures tt .value))
+          let e = w .in-Some .entry in
+          let h : i < length (c .loop-i .table) = omega (arith, c .loop-i .inv .0, c .len-count .ensures .few) in
+          (ap length (w .table-is) ∙ simp length-set (c .loop-i .inv .0), ap (take (i + 1)) (w .table-is) ∙ take-more-set (c .loop-i .table) i (e .value) h ∙ ap (λ vs. vs ++ (e .value ∷ [])) (c .loop-i .inv .1) ∙ values-more es i e (w .in-Some .ensures tt .value))
       | need.in-rest w ↦ absurd (is-there es i (omega (arith, c .len-count .ensures .value)) (w .in-rest .ensures tt .value))
     ]
 

@@ -15,8 +15,8 @@ loop-i-again g c = λ r fs k e.
     let h : i < length es = omega (arith, c .len-i-end .ensures .value) in
     elim (c .match-entry .came) [
       | need.in-Some w ↦
-        let v = w .in-Some .value in
-        ap entriesOf (w .sheet-is) ∙ w .overwrite .ensures ∙ ap (λ xs. valued xs i v) (c .loop-i .inv r fs k e) ∙ mixed-more i es fs v k (w .in-Some .ensures tt r ∙ ap (λ x. valueGot (got x 0 i)) e)
+          let v = w .in-Some .value in
+          ap entriesOf (w .sheet-is) ∙ w .overwrite .ensures ∙ ap (λ xs. valued xs i v) (c .loop-i .inv r fs k e) ∙ mixed-more i es fs v k (w .in-Some .ensures tt r ∙ ap (λ x. valueGot (got x 0 i)) e)
       | need.in-rest w ↦ absurd (has-value i es fs k h (w .in-rest .ensures tt r ∙ ap (λ x. valueGot (got x 0 i)) e))
     ]
 
