@@ -1,6 +1,6 @@
 -- A whole run over a sheet, against the rule's meaning.
 use Prim.Native.Nat.{ℕ, zero, suc, _+_, _-_, _<_, _≤_}
-use mathlib.Core.Path.{_≡_, refl, sym, ap, ap₂, _∙_}
+use mathlib.Core.Path.{_≡_, refl, sym, ap, ap₂, subst, _∙_}
 use mathlib.Core.List.{List, [], _∷_, _++_, map}
 use native.Mathlib.Omega.{arith}
 use native.Mathlib.Numerals.{add-one}
@@ -36,7 +36,8 @@ use Rattle.machine.specs.declared.outcome.Outcome.the-variants as outcome
 use Rattle.machine.specs.declared.outcome.Ran.{Ran}
 use Rattle.machine.specs.Shows.{valueGot, idle, startFrames}
 use Rattle.machine.specs.Runs.{Ends}
-use Rattle.machine.specs.Whole.{outcomeOf, ranOf, entriesLeft, Kin}
+use Rattle.machine.specs.Settles.{Kin, Settled}
+use Rattle.machine.specs.Whole.{outcomeOf, ranOf, entriesLeft}
 use Rattle.machine.proofs.Steps.{step-past, goes-both, goes-then}
 
 -- the entries' values, and the first frame that holds them
@@ -212,11 +213,6 @@ ends-as es c s n o b v h r =
 pub same-ran : (es : List Entry) (e : Ending) (r : Ran) (b : Machine) → Agreed es (e .outcome) (e .steps) (r .outcome) (r .steps) b → _≡_ {A = Result Ran Refusal} (Ok r) (Ok (ranOf e))
 same-ran es e r b a = ap₂ (λ (o : Outcome) (s : ℕ). Ok (record { outcome = o; steps = s })) (a .same) (a .steps)
 
--- after done the entries are those of the frame
-pub left-done : (es fs : List Entry) (e : End) (t : ℕ) (o : Outcome) (s : ℕ) (b : Machine) → Agreed es e t o s b → o ≡ outcome.Done → ((gs : List Entry) → Kin es gs → b .frames ≡ sheetFrames gs → fs ≡ gs) → fs ≡ entriesLeft es e
-left-done es fs (done gs) t o s b a d k = k gs (a .stands .0) (a .stands .1)
-left-done es fs (faulty f p) t o s b a d k = absurd (let z : _≡_ {A = ℕ} 0 1 = cc (a .same, d) in omega arith)
-
-pub left-other : (es fs : List Entry) (e : End) (t : ℕ) (o : Outcome) (s : ℕ) (b : Machine) → Agreed es e t o s b → (o ≡ outcome.Done → ⊥) → fs ≡ es → fs ≡ entriesLeft es e
-left-other es fs (done gs) t o s b a d k = absurd (d (a .same))
-left-other es fs (faulty f p) t o s b a d k = k
+pub left-as : (es fs : List Entry) (e : End) (t : ℕ) (o : Outcome) (s : ℕ) (b : Machine) → Agreed es e t o s b → Settled o (b .frames) es fs → fs ≡ entriesLeft es e
+left-as es fs (done gs) t o s b a k = subst (λ (x : Outcome). Settled x (b .frames) es fs) (a .same) k gs (a .stands .0) (a .stands .1)
+left-as es fs (faulty f p) t o s b a k = subst (λ (x : Outcome). Settled x (b .frames) es fs) (a .same) k

@@ -1,3 +1,4 @@
 pub mod Shows
 pub mod Runs
+pub mod Settles
 pub mod Whole

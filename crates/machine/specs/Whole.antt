@@ -1,13 +1,11 @@
 -- A whole run over a sheet does what the rule's named meaning says.
-use Prim.Native.Nat.{ℕ}
 use mathlib.Core.Path.{_≡_}
-use mathlib.Core.List.{List, [], _∷_}
+use mathlib.Core.List.{List, []}
 use Rattle.std.specs.declared.result.Result.{Result}
 use Rattle.std.specs.declared.result.Result.the-variants.{Ok}
 use Rattle.lang.specs.declared.code.Code.{Code}
 use Rattle.lang.specs.declared.refusal.Refusal.{Refusal}
 use Rattle.lang.specs.declared.sheet.Entry.{Entry}
-use Rattle.lang.specs.Sheets.{withValue}
 use Rattle.frames.specs.Frames.{Frames, none}
 use Rattle.meaning.specs.Tree.{Command}
 use Rattle.meaning.specs.Violations.{violations}
@@ -33,13 +31,6 @@ ranOf e = record { outcome = outcomeOf (e .outcome); steps = e .steps }
 abbrev pub entriesLeft : List Entry → End → List Entry
 entriesLeft es (done fs) = fs
 entriesLeft es (faulty f p) = es
-
--- the same names and marks, in the same order
-abbrev pub Kin : List Entry → List Entry → Type 0
-Kin [] [] = Unit {0}
-Kin [] (f ∷ fs) = ⊥
-Kin (e ∷ es) [] = ⊥
-Kin (e ∷ es) (f ∷ fs) = (withValue e (f .value) ≡ f) × Kin es fs
 
 -- a call over the entries es answered r and left the entries fs and the machine b, as the meaning e says
 pub record Meant {F : Type 0} (sound : F → Type 0) (frames : F → Frames) (e : Ending) (es fs : List Entry) (b : Machine F) (r : Result Ran Refusal) : Type 0 where

@@ -1,11 +1,11 @@
 ghost use mathlib.Core.Path.{_≡_};
 ghost use mathlib.Core.List.{map};
 ghost use Prim.Native.Nat.{_≤_};
-ghost use lib.ListN.{length, take};
+ghost use lib.ListN.{take};
 ghost use Rattle.lang.specs.Sheets.{entriesOf};
-ghost use Rattle.meaning.specs.Runs.{sheetFrames};
 ghost use Rattle.machine.specs.Shows.{Ready};
-ghost use Rattle.machine.specs.Whole.{Means, Kin};
+ghost use Rattle.machine.specs.Settles.{TakenOver, Settled};
+ghost use Rattle.machine.specs.Whole.{Means};
 use crate::machine::Machine;
 use crate::machine::runs::MOST_STEPS;
 use crate::outcome::Outcome;
@@ -32,7 +32,7 @@ fn starting(sheet: &Sheet, table: &mut [Value; 32]) -> usize
 
 // The values that the first frame holds go into the sheet.
 fn take_over<F: BuildFrames + Drop>(machine: &Machine<F>, sheet: &mut Sheet)
-    ensures { λ _. ⌜ (Ready (F·ReadFrames .sound) (now (machine .entry)) → (fs : _) → Kin (entriesOf (now (sheet .entry))) fs → F·ReadFrames .frames (now (machine .entry) .frames) ≡ sheetFrames fs → entriesOf (now (sheet .exit)) ≡ fs) ⌝ }
+    ensures { λ _. ⌜ (Ready (F·ReadFrames .sound) (now (machine .entry)) → TakenOver (F·ReadFrames .frames (now (machine .entry) .frames)) (entriesOf (now (sheet .entry))) (entriesOf (now (sheet .exit)))) ⌝ }
 {
     for i in 0..sheet.len() {
         if let Some(value) = machine.entry(i) {
@@ -41,8 +41,20 @@ fn take_over<F: BuildFrames + Drop>(machine: &Machine<F>, sheet: &mut Sheet)
     }
 }
 
-// Runs code over a sheet, to its end or its fault. Done takes over the entries' values; a fault leaves them.
-// No frame stands afterwards.
+// Done takes over the entries' values; a fault leaves them.
+fn settle<F: BuildFrames + Drop>(outcome: Outcome, machine: &Machine<F>, sheet: &mut Sheet)
+    ensures { λ _. ⌜ (Ready (F·ReadFrames .sound) (now (machine .entry)) → Settled outcome (F·ReadFrames .frames (now (machine .entry) .frames)) (entriesOf (now (sheet .entry))) (entriesOf (now (sheet .exit)))) ⌝ }
+{
+    match outcome {
+        Outcome::Done => take_over(machine, sheet),
+        Outcome::Fault { .. } => {}
+        Outcome::Paused => {}
+        Outcome::Stuck => {}
+    }
+}
+
+// Runs code over a sheet, to its end or its fault, and settles the entries. No frame stands afterwards.
+// With the code of a rule this is what the rule means.
 pub fn run_over<F: BuildFrames + Drop>(
     machine: &mut Machine<F>,
     code: &Code,
@@ -56,9 +68,7 @@ pub fn run_over<F: BuildFrames + Drop>(
     machine.begin(&values[0..count])?;
     // with all steps done, one more call finds the fault
     let ran = machine.run(code, MOST_STEPS + 1);
-    if let Outcome::Done = ran.outcome {
-        take_over(machine, sheet);
-    }
+    settle(ran.outcome, machine, sheet);
     machine.clear();
     Ok(ran)
 }

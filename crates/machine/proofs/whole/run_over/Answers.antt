@@ -9,8 +9,7 @@ use Rattle.meaning.specs.Translation.{translated}
 use Rattle.meaning.specs.Runs.{meaning, start}
 use Rattle.machine.specs.Shows.{seen}
 use Rattle.machine.specs.Runs.{Ends}
-use Rattle.machine.proofs.Endings.{begun, ends-as, same-ran, left-done, left-other}
-use Rattle.machine.proofs.whole.run_over.Needs.{in-Done, in-rest}
+use Rattle.machine.proofs.Endings.{begun, ends-as, same-ran, left-as}
 use Rattle.machine.proofs.whole.run_over.Needs as need
 
 pub returns : need.returns
@@ -31,10 +30,7 @@ returns g c = λ t v h r.
     let k = c .clear .ensures (u .0) in
     record {
       answer = same-ran es e ran b a;
-      entries = elim (c .match-ran .came) [
-        | in-Done w ↦ left-done es (entriesOf (c .match-ran .sheet)) (e .outcome) (e .steps) (ran .outcome) (ran .steps) b a (w .in-Done .is) (λ gs p q. ap entriesOf (w .sheet-is) ∙ w .take-over .ensures (u .0) gs p q)
-        | in-rest w ↦ left-other es (entriesOf (c .match-ran .sheet)) (e .outcome) (e .steps) (ran .outcome) (ran .steps) b a (w .in-rest .not-Done) (ap entriesOf (w .sheet-is))
-      ];
+      entries = left-as es (entriesOf (c .settle .last .sheet)) (e .outcome) (e .steps) (ran .outcome) (ran .steps) b a (c .settle .ensures (u .0));
       ready = k .0;
       empty = k .1;
     }

@@ -4,7 +4,7 @@ use Rattle.lang.specs.declared.sheet.Entry.{Entry}
 use Rattle.lang.specs.Sheets.{entriesOf}
 use Rattle.meaning.specs.Runs.{sheetFrames}
 use Rattle.machine.specs.Shows.{Ready}
-use Rattle.machine.specs.Whole.{Kin}
+use Rattle.machine.specs.Settles.{Kin}
 use Rattle.machine.proofs.Endings.{mixed}
 use Rattle.machine.proofs.whole.take_over.Given as given
 
