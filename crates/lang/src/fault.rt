@@ -2,7 +2,7 @@ ghost use mathlib.Core.Path.{_≡_};
 ghost use Rattle.lang.specs.Faults.{number};
 
 // Why a run ends early. `number` of specs/Faults.antt gives each case its number.
-#[derive(Clone, Copy, PartialEq, Eq, Debug)]
+#[derive(Clone, Copy)]
 pub enum Fault {
     Kind,
     Range,

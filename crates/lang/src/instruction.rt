@@ -1,18 +1,16 @@
 ghost use mathlib.Core.Path.{_≡_};
 ghost use Rattle.lang.specs.Instructions.{parts as partsOf};
 use crate::value::Value;
-use crate::value::ValueDebug;
-use crate::value::ValuePartialEq;
 
 // Whether a datum is a constant or a variable.
-#[derive(Clone, Copy, PartialEq, Eq, Debug)]
+#[derive(Clone, Copy)]
 pub enum Binding {
     Constant,
     Variable,
 }
 
 // One instruction of the machine. `parts` of specs/Instructions.antt gives each case its number and operands.
-#[derive(Clone, Copy, PartialEq, Eq, Debug)]
+#[derive(Clone, Copy)]
 pub enum Instruction {
     Push(Value),
     Load { hops: u8, offset: u8 },

@@ -1,5 +1,5 @@
 // A name: its bytes, and zeros up to the sixteenth. No name has a zero byte.
-#[derive(Clone, Copy, PartialEq, Eq, Debug)]
+#[derive(Clone, Copy)]
 pub struct Name {
     pub bytes: [u8; 16],
 }

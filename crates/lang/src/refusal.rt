@@ -2,7 +2,7 @@ ghost use mathlib.Core.Path.{_≡_};
 ghost use Rattle.lang.specs.Refusals.{number};
 
 // Why a call is turned away. `number` of specs/Refusals.antt gives each case its number.
-#[derive(Clone, Copy, PartialEq, Eq, Debug)]
+#[derive(Clone, Copy, Debug)]
 pub enum Refusal {
     ShortMemory,
     BadSheet,
@@ -63,7 +63,7 @@ impl Refusal {
 }
 
 // A refused text: why, and the place it is refused at.
-#[derive(Clone, Copy, PartialEq, Eq, Debug)]
+#[derive(Clone, Copy)]
 pub struct Refused {
     pub why: Refusal,
     pub place: u16,

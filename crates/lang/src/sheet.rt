@@ -2,7 +2,7 @@ use crate::name::Name;
 use crate::value::Value;
 
 // Whether a rule may change an entry: a given one is a constant to it, a kept one a variable.
-#[derive(Clone, Copy, PartialEq, Eq, Debug)]
+#[derive(Clone, Copy)]
 pub enum Mark {
     Given,
     Kept,

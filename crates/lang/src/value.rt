@@ -2,14 +2,14 @@ ghost use mathlib.Core.Path.{_≡_};
 ghost use Rattle.lang.specs.Values.{kindOf, slotOf, valueIn, alike as sameKind};
 
 // The two kinds of value.
-#[derive(Clone, Copy, PartialEq, Eq, Debug)]
+#[derive(Clone, Copy)]
 pub enum Kind {
     Number,
     Truth,
 }
 
 // What an expression is worth.
-#[derive(Clone, Copy, PartialEq, Eq, Debug)]
+#[derive(Clone, Copy)]
 pub enum Value {
     Number(i32),
     Truth(bool),
