@@ -13,7 +13,7 @@ use lang::value::SlotEq;
 use lang::value::SlotPartialEq;
 
 // A call of a frame memory with its arguments.
-#[derive(Clone, Copy)]
+#[derive(Clone, Copy, Debug)]
 pub enum Call {
     Get(usize, usize),
     FrameCount,

@@ -3,6 +3,7 @@ use crate::call::AnswerDebug;
 use crate::call::AnswerPartialEq;
 use crate::call::Answers;
 use crate::call::Call;
+use crate::call::CallDebug;
 use crate::call::ChainAnswers;
 use crate::call::DisplayAnswers;
 use crate::edges;
@@ -78,7 +79,7 @@ impl Counter {
         }
     }
 
-    // A call in which growth weighs so many of 100, and new frames are mostly narrower than the bound.
+    // Of 100 calls so many open and so many enter, mostly frames narrower than the bound.
     fn call(&mut self, open: usize, enter: usize, bound: u64) -> Call {
         let pick = self.below(100);
         if pick < open {
@@ -120,14 +121,14 @@ fn dirty_slots(heap: Global, count: usize) -> Result<Vec<Slot>, AllocError> {
     Ok(slots)
 }
 
-// Memory that is just long enough, but for the links.
+// So many links, with starts and slots that are just enough.
 fn lent(heap: Global, links: usize) -> Result<(Vec<u16>, Vec<u16>, Vec<Slot>), AllocError> {
     let links = dirty_numbers(heap, links)?;
     let starts = dirty_numbers(heap, 256)?;
     Ok((links, starts, dirty_slots(heap, 2048)?))
 }
 
-// The number that a chain over so much memory is refused with, 0 if it is not.
+// The number that a chain over so much memory is refused with, or 0.
 fn chain_refusal(heap: Global, parents: usize, starts: usize, slots: usize) -> Result<u8, Fail> {
     let mut parents = dirty_numbers(heap, parents)?;
     let mut starts = dirty_numbers(heap, starts)?;
@@ -241,13 +242,15 @@ impl<'c, 'd> Trio<'c, 'd> {
         }
     }
 
-    // One call to all three: they answer alike, and alike is what stands after it.
+    // One call to all three: they answer alike, and the same stands after it.
     fn turn(&mut self, call: Call) -> Result<Answer, Fail> {
         let want = self.model.answer(call);
         self.tally.add(want);
-        same_answer(self.heap, &mut self.chain, call, want).note("chain")?;
-        same_answer(self.heap, &mut self.display, call, want).note("display")?;
-        self.compare()?;
+        same_answer(self.heap, &mut self.chain, call, want).note(format_args!("chain, {call:?}"))?;
+        same_answer(self.heap, &mut self.display, call, want).note(format_args!(
+            "display, {call:?}"
+        ))?;
+        self.compare().note(format_args!("after {call:?}"))?;
         Ok(want)
     }
 
