@@ -12,7 +12,8 @@ use Rattle.lang.specs.declared.word.Kind.{Kind}
 use Rattle.lang.specs.Kinds.{sameKind}
 use Rattle.grammar.specs.Words.{Word, Is}
 use Rattle.grammar.specs.Grammar.{Within}
-use Rattle.grammar.specs.Machine.{Part, tok, line, leave, depth, Means, Alts, over, empty, word, begins, enters, Step, take, stop, pass, Out, fine, bad, both, front, rear, further, inside, at, nothing, then, shift, ending, finish, run}
+use Rattle.grammar.specs.Machine.{Part, tok, line, leave, depth, Means, Alts, over, empty, word, begins, enters, Out, fine, bad, front, rear, nothing}
+use Rattle.grammar.proofs.Stepper.{Step, take, stop, pass, both, further, inside, at, then, shift, ending, finish, run}
 use Rattle.grammar.proofs.Derive.{Goal, parts, alts, Meant, D, nil, a-tok, a-line, a-leave, here-empty, here-word, here-line, here-enter, later-word, later-line, join, joined, front-joined, rear-joined, nests, no-words, is-depth}
 
 pub data Came (A B : Type 0) : Type 0 where

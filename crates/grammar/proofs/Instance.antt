@@ -7,7 +7,8 @@ use Rattle.lang.specs.declared.word.Kind.the-variants.{Name, Number, Call, If, 
 use Rattle.lang.specs.Kinds.{sameKind}
 use Rattle.grammar.specs.Words.{Word}
 use Rattle.grammar.specs.Grammar.{command-line, in-command, block-line, data-line, routines-line, commands-line, datum-line, routine-line, names-line, more-names, args-line, some-args, expr-line, in-expr, either-line, both-line, test-line, sum-line, product-line, prefix-line, in-prefix, atom-line}
-use Rattle.grammar.specs.Machine.{line, run, fine}
+use Rattle.grammar.specs.Machine.{line, fine}
+use Rattle.grammar.proofs.Stepper.{run}
 use Rattle.grammar.specs.Table.{Row, the, data-more, routines-more, commands-more, args-more, or-more, and-more, test-rest, sum-more, product-more, atom-rest, Meant, rules}
 use Rattle.grammar.proofs.Forth.{LL, Keeps, takes}
 use Rattle.grammar.proofs.Decide.{ll-test, ll-holds, keeps-test, keeps-holds, apart-test, apart-holds}

@@ -1,3 +1,5 @@
+pub mod Stepper
+pub mod Alongside
 pub mod Derive
 pub mod Back
 pub mod Forth

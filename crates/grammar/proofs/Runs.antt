@@ -14,7 +14,8 @@ use Rattle.lang.specs.declared.refusal.Refusal.the-variants.{Unexpected, NestTo
 use Rattle.lang.specs.Kinds.{sameKind}
 use Rattle.grammar.specs.Words.{Word, Is}
 use Rattle.grammar.specs.Grammar.{Within}
-use Rattle.grammar.specs.Machine.{Part, tok, line, leave, depth, Means, Alts, over, empty, word, begins, enters, Step, take, stop, pass, Out, fine, bad, both, front, rear, further, inside, at, nothing, then, shift, ending, finish, run}
+use Rattle.grammar.specs.Machine.{Part, tok, line, leave, depth, Means, Alts, over, empty, word, begins, enters, Out, fine, bad, front, rear, nothing}
+use Rattle.grammar.proofs.Stepper.{Step, take, stop, pass, both, further, inside, at, then, shift, ending, finish, run}
 use borrow.Author.Tests.{eq-eqb, le-leb}
 use Rattle.grammar.proofs.Derive.{Goal, parts, alts, Meant, D, nil, a-tok, a-line, a-leave, here-empty, here-word, here-line, here-enter, later-word, later-line, is-depth}
 use Rattle.grammar.proofs.Back.{Backs, Stack, Any, back, Ended, ended}
