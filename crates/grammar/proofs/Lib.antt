@@ -10,3 +10,4 @@ pub mod Into
 pub mod Outof
 pub mod Answers
 pub mod Respell
+pub mod Picks
