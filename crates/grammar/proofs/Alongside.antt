@@ -3,13 +3,12 @@ use mathlib.Core.Path.{_≡_, refl, sym, ap, subst, subst⁻¹, subst⁻¹-refl,
 use mathlib.Core.Bool.{Bool, true, false, cond}
 use mathlib.Core.List.{List, [], _∷_, _++_}
 use mathlib.Core.Option.{Option, some, none}
-use Prim.Native.Nat.{ℕ}
 use lib.Dec.{leb}
 use Rattle.lang.specs.declared.word.Kind.{Kind}
 use Rattle.lang.specs.declared.refusal.Refusal.the-variants.{Unexpected, NestTooDeep}
 use Rattle.lang.specs.Kinds.{sameKind}
 use Rattle.grammar.specs.Words.{Word}
-use Rattle.grammar.specs.Machine.{Part, tok, line, leave, depth, Means, Alts, over, empty, word, begins, enters, Out, fine, bad, skip, front, rear, nothing, pick, next, end, run}
+use Rattle.grammar.specs.Machine.{Part, tok, line, leave, depth, Means, Alts, over, empty, word, begins, enters, Out, bad, skip, front, rear, nothing, pick, next, end, run}
 use Rattle.grammar.proofs.Stepper as step
 use Rattle.grammar.proofs.Stepper.{Step, take, stop, pass, both, further, inside, at, then, shift, ending, finish}
 
@@ -23,11 +22,11 @@ module _ {L : Type 0} (V : L → Type 0) where
 
   sub-tok : (j : Kind) (xs : List (Part L)) {ys : List (Part L)} (e : xs ≡ ys) (a : Means V (tok j ∷ ys)) → subst⁻¹ (Means V) (ap (λ z. tok j ∷ z) e) a ≡ (a .0, subst⁻¹ (Means V) e (a .1))
   sub-tok j xs e = pathJ (λ ys e. (a : Means V (tok j ∷ ys)) → subst⁻¹ (Means V) (ap (λ z. tok j ∷ z) e) a ≡ (a .0, subst⁻¹ (Means V) e (a .1)))
-    (λ a. subst⁻¹-refl (Means V) {x = tok j ∷ xs} a ∙ ap (λ z. (a .0, z)) (sym (subst⁻¹-refl (Means V) {x = xs} (a .1)))) e
+      (λ a. subst⁻¹-refl (Means V) {x = tok j ∷ xs} a ∙ ap (λ z. (a .0, z)) (sym (subst⁻¹-refl (Means V) {x = xs} (a .1)))) e
 
   sub-line : (l : L) (xs : List (Part L)) {ys : List (Part L)} (e : xs ≡ ys) (a : Means V (line l ∷ ys)) → subst⁻¹ (Means V) (ap (λ z. line l ∷ z) e) a ≡ (a .0, subst⁻¹ (Means V) e (a .1))
   sub-line l xs e = pathJ (λ ys e. (a : Means V (line l ∷ ys)) → subst⁻¹ (Means V) (ap (λ z. line l ∷ z) e) a ≡ (a .0, subst⁻¹ (Means V) e (a .1)))
-    (λ a. subst⁻¹-refl (Means V) {x = line l ∷ xs} a ∙ ap (λ z. (a .0, z)) (sym (subst⁻¹-refl (Means V) {x = xs} (a .1)))) e
+      (λ a. subst⁻¹-refl (Means V) {x = line l ∷ xs} a ∙ ap (λ z. (a .0, z)) (sym (subst⁻¹-refl (Means V) {x = xs} (a .1)))) e
 
   -- three stretches of what parts mean, from either bracketing
   pub record Three (us qs ps : List (Part L)) (a : Means V ((us ++ qs) ++ ps)) (c : Means V (us ++ (qs ++ ps))) : Type 0 where
@@ -85,23 +84,23 @@ module _ {L : Type 0} (V : L → Type 0) where
     picks (word j qs b more) ps f s = on (sameKind j (w .kind)) (picks more ps f s)
       where
         on : (c : Bool) → pick V w go more ps f s ≡ after ps f s (at V more (w .kind))
-          → cond c (go (qs ++ ps) (λ a. f (b w (front V qs ps a)) (rear V qs ps a))) (pick V w go more ps f s) ≡ after ps f s (cond c (take qs b) (at V more (w .kind)))
+            → cond c (go (qs ++ ps) (λ a. f (b w (front V qs ps a)) (rear V qs ps a))) (pick V w go more ps f s) ≡ after ps f s (cond c (take qs b) (at V more (w .kind)))
         on true h = refl
         on false h = h
     picks (begins inner qs b more) ps f s =
         picks inner (qs ++ ps) (λ t a. f (b w t (front V qs ps a)) (rear V qs ps a)) (pick V w go more ps f s) ∙ on (at V inner (w .kind)) (picks more ps f s)
       where
         on : (x : Step V _) → pick V w go more ps f s ≡ after ps f s (at V more (w .kind))
-          → after (qs ++ ps) (λ t a. f (b w t (front V qs ps a)) (rear V qs ps a)) (pick V w go more ps f s) x ≡ after ps f s (further V x qs b (at V more (w .kind)))
+            → after (qs ++ ps) (λ t a. f (b w t (front V qs ps a)) (rear V qs ps a)) (pick V w go more ps f s) x ≡ after ps f s (further V x qs b (at V more (w .kind)))
         on (take us g) h = sym (along ((us ++ qs) ++ ps) (λ a. f (b w (g w (front V us qs (front V (us ++ qs) ps a))) (rear V us qs (front V (us ++ qs) ps a))) (rear V (us ++ qs) ps a)) (assoc us qs ps)
-          ∙ (λ i. go (us ++ (qs ++ ps)) (λ c. let x = thirds us qs ps c in f (b w (g w (x .one i)) (x .two i)) (x .three i))))
+            ∙ (λ i. go (us ++ (qs ++ ps)) (λ c. let x = thirds us qs ps c in f (b w (g w (x .one i)) (x .two i)) (x .three i))))
         on stop h = h
         on (pass x) h = h
     picks (enters inner b) ps f s = picks inner (leave ∷ ps) (λ t a. f (b t) a) s ∙ on (at V inner (w .kind))
       where
         on : (x : Step V _) → after (leave ∷ ps) (λ t a. f (b t) a) s x ≡ after ps f s (inside V x b)
         on (take us g) = sym (along ((us ++ leave ∷ []) ++ ps) (λ a. f (b (g w (front V us (leave ∷ []) (front V (us ++ leave ∷ []) ps a)))) (rear V (us ++ leave ∷ []) ps a)) (assoc us (leave ∷ []) ps)
-          ∙ (λ i. go (us ++ leave ∷ ps) (λ c. let x = thirds us (leave ∷ []) ps c in f (b (g w (x .one i))) (x .three i))))
+            ∙ (λ i. go (us ++ leave ∷ ps) (λ c. let x = thirds us (leave ∷ []) ps c in f (b (g w (x .one i))) (x .three i))))
         on stop = refl
         on (pass x) = refl
 
@@ -126,8 +125,9 @@ module _ {L : Type 0} (V : L → Type 0) where
           passed t (take qs g) = refl
           passed t stop = refl
           passed t (pass x) = refl
+
           on : (s : Step V (V l)) (o : Option (V l)) → Idle s o → ((t : V l) → next V rules w go ws ps (λ a. f (t, a)) ≡ done (λ a. f (t, a)) (shift V rules ps (w .kind)))
-            → after ps (λ t a. f (t, a)) (skip o ws (λ t. next V rules w go ws ps (λ a. f (t, a)))) s ≡ done f (then V s ps (shift V rules ps (w .kind)))
+              → after ps (λ t a. f (t, a)) (skip o ws (λ t. next V rules w go ws ps (λ a. f (t, a)))) s ≡ done f (then V s ps (shift V rules ps (w .kind)))
           on (take qs g) o h i = refl
           on stop o h i = ap (λ o. skip o ws (λ t. next V rules w go ws ps (λ a. f (t, a)))) h
           on (pass x) o h i = ap (λ o. skip o ws (λ t. next V rules w go ws ps (λ a. f (t, a)))) h ∙ i x ∙ passed x (shift V rules ps (w .kind))
@@ -142,8 +142,9 @@ module _ {L : Type 0} (V : L → Type 0) where
         some-end : (t : V l) (x : Option (Means V ps)) → finish V rules x (λ a. f (t, a)) ≡ finish V rules (both (some t) x) f
         some-end t none = refl
         some-end t (some a) = refl
+
         on : (o : Option (V l)) → ((t : V l) → end V rules ps (λ a. f (t, a)) ≡ finish V rules (ending V rules ps) (λ a. f (t, a)))
-          → skip o [] (λ t. end V rules ps (λ a. f (t, a))) ≡ finish V rules (both o (ending V rules ps)) f
+            → skip o [] (λ t. end V rules ps (λ a. f (t, a))) ≡ finish V rules (both o (ending V rules ps)) f
         on none i = refl
         on (some t) i = i t ∙ some-end t (ending V rules ps)
     ends (leave ∷ ps) f = ends ps f
@@ -155,7 +156,7 @@ module _ {L : Type 0} (V : L → Type 0) where
         ∙ nexts w (λ qs g. cond (leb (depth qs) 64) (step.run V rules ws qs g) (bad NestTooDeep (w ∷ ws))) rules (w ∷ ws) ps f ∙ on (shift V rules ps (w .kind))
       where
         on : (s : Step V (Means V ps)) → done w (λ qs g. cond (leb (depth qs) 64) (step.run V rules ws qs g) (bad NestTooDeep (w ∷ ws))) rules (w ∷ ws) f s
-          ≡ (elim s [ take qs g ↦ let r = step.run V rules ws qs (λ a. f (g w a)) in cond (leb (depth qs) 64) r (bad NestTooDeep (w ∷ ws)) | stop ↦ bad Unexpected (w ∷ ws) | pass a ↦ bad Unexpected (w ∷ ws) ])
+            ≡ (elim s [ take qs g ↦ let r = step.run V rules ws qs (λ a. f (g w a)) in cond (leb (depth qs) 64) r (bad NestTooDeep (w ∷ ws)) | stop ↦ bad Unexpected (w ∷ ws) | pass a ↦ bad Unexpected (w ∷ ws) ])
         on (take qs g) = refl
         on stop = refl
         on (pass x) = refl

@@ -1,8 +1,8 @@
 -- Reading decides the grammar.
 use mathlib.Core.Path.{_≡_, refl, sym, ap, subst, _∙_}
-use mathlib.Core.Bool.{Bool, true, false, cond}
+use mathlib.Core.Bool.{Bool, true, false}
 use mathlib.Core.List.{List, [], _∷_, _++_}
-use Prim.Native.Nat.{ℕ, zero, suc, _+_, _≤_, _<_}
+use Prim.Native.Nat.{ℕ, suc, _+_, _≤_}
 use native.Mathlib.Omega.{arith}
 use lib.ListN.{length}
 use Rattle.grammar.specs.Words.{Word}
@@ -15,7 +15,7 @@ use Rattle.grammar.proofs.Stepper.{run}
 use Rattle.grammar.specs.Table.{Row, the, Meant, rules, reading}
 use Rattle.grammar.specs.Answer.{Decides}
 use Rattle.grammar.proofs.Alongside.{as-stepped}
-use Rattle.grammar.proofs.Derive.{Goal, parts, alts, D, nil, a-line}
+use Rattle.grammar.proofs.Derive.{parts, D, nil, a-line}
 use Rattle.grammar.proofs.Runs as r
 use Rattle.grammar.proofs.Decide.{apart-holds}
 use Rattle.grammar.proofs.Instance.{ll, follow, keeps, apart-tests, sample, sampled}
@@ -73,8 +73,13 @@ too-deep : (ws q : List Word) → stepped ws ≡ bad NestTooDeep q → TooDeep w
 too-deep ws q e =
     let x = r.deep Meant rules ll follow keeps (λ l. apart-holds Meant rules ll follow l (apart-tests l)) sample sampled ws q start whole fine-start (omega arith) e in
     record {
-      before = x .before; word = x .word; after = x .after; here = x .here; split = x .parted;
-      so-far = (x .so-far .0, x .so-far .1 .0 .0, from-table (x .so-far .1 .1)); no-more = λ vs t y. x .no-more vs ((t, tt), to-table y)
+      before = x .before;
+      word = x .word;
+      after = x .after;
+      here = x .here;
+      split = x .parted;
+      so-far = (x .so-far .0, x .so-far .1 .0 .0, from-table (x .so-far .1 .1));
+      no-more = λ vs t y. x .no-more vs ((t, tt), to-table y);
     }
 
 -- two ways to part the same words
@@ -97,6 +102,7 @@ part (w ∷ u) p (y ∷ v) q e = on (part u p v q (tails w y (u ++ p) (v ++ q) e
   where
     h : w ≡ y
     h = heads w y (u ++ p) (v ++ q) e
+
     on : Parted u p v q → Parted (w ∷ u) p (y ∷ v) q
     on (alike a b) = alike (ap (λ z. w ∷ z) a ∙ ap (λ z. z ∷ v) h) b
     on (longer s x a b) = longer s x (ap (λ z. z ∷ v) (sym h) ∙ ap (λ z. w ∷ z) a) b
@@ -196,5 +202,5 @@ decides ws = record {
   accepts = λ t. (λ x. same-reading ws ∙ accepts ws t x, λ e. accepted ws t (sym (same-reading ws) ∙ e));
   seven = λ q. (λ x. same-reading ws ∙ seven ws q x, λ e. leaves ws q (sym (same-reading ws) ∙ e));
   eight = λ q. (λ x. same-reading ws ∙ eight ws q x, λ e. too-deep ws q (sym (same-reading ws) ∙ e));
-  one-tree = one-tree ws
+  one-tree = one-tree ws;
 }

@@ -1,20 +1,16 @@
 -- What the machine takes is derived.
-use mathlib.Core.Path.{_≡_, refl, sym, ap, subst, _∙_}
+use mathlib.Core.Path.{_≡_, refl, subst}
 use mathlib.Core.Bool.{Bool, true, false, cond}
-use mathlib.Core.List.{List, [], _∷_, _++_}
+use mathlib.Core.List.{List, [], _∷_}
 use mathlib.Core.Option.{Option, some, none}
-use Prim.Native.Nat.{ℕ, zero, suc, _+_, _≤_, _<_}
+use Prim.Native.Nat.{ℕ, suc}
 use native.Mathlib.Omega.{arith}
-use lib.ListN.{length}
-use lib.Dec.{leb}
-use borrow.Author.Tests.{clash, leb-true, leb-false}
-use Rattle.lang.specs.declared.word.Kind.{Kind}
 use Rattle.lang.specs.Kinds.{sameKind}
-use Rattle.grammar.specs.Words.{Word, Is}
+use Rattle.grammar.specs.Words.{Word}
 use Rattle.grammar.specs.Grammar.{Within}
-use Rattle.grammar.specs.Machine.{Part, tok, line, leave, depth, Means, Alts, over, empty, word, begins, enters, Out, fine, bad, front, rear, nothing}
-use Rattle.grammar.proofs.Stepper.{Step, take, stop, pass, both, further, inside, at, then, shift, ending, finish, run}
-use Rattle.grammar.proofs.Derive.{Goal, parts, alts, Meant, D, nil, a-tok, a-line, a-leave, here-empty, here-word, here-line, here-enter, later-word, later-line, Halves, split, falls, is-depth}
+use Rattle.grammar.specs.Machine.{Part, tok, line, leave, depth, Means, Alts, over, empty, word, begins, enters, front, rear, nothing}
+use Rattle.grammar.proofs.Stepper.{Step, take, stop, pass, both, further, inside, at, then, shift, ending}
+use Rattle.grammar.proofs.Derive.{Goal, parts, alts, Meant, D, nil, a-tok, a-line, a-leave, here-empty, here-word, here-line, here-enter, later-word, later-line, split, falls, is-depth}
 
 module _ {L : Type 0} (V : L → Type 0) (rules : (l : L) → Alts V l) where
   abbrev pub D′ : ℕ → (g : Goal V) → List Word → List Word → Meant g → Type 0
@@ -43,8 +39,8 @@ module _ {L : Type 0} (V : L → Type 0) (rules : (l : L) → Alts V l) where
   Naught k n us t = (vs : List Word) → D′ k (alts n us) vs vs t
 
   back-further : {l m : L} (k n : ℕ) (w : Word) (ws r : List Word) (inner : Alts V m) (ps : List (Part L)) (b : Word → V m → Means V ps → V l) (more : Alts V l) (s : Step V (V m)) (s′ : Step V (V l))
-    → ((h : ℕ) (us : List Word) → Backs k h w ws us s (Whole k h w ws us inner) (Naught k h inner)) → Backs k n w ws r s′ (Whole k n w ws r more) (Naught k n more)
-    → Backs k n w ws r (further V s ps b s′) (Whole k n w ws r (begins inner ps b more)) (Naught k n (begins inner ps b more))
+      → ((h : ℕ) (us : List Word) → Backs k h w ws us s (Whole k h w ws us inner) (Naught k h inner)) → Backs k n w ws r s′ (Whole k n w ws r more) (Naught k n more)
+      → Backs k n w ws r (further V s ps b s′) (Whole k n w ws r (begins inner ps b more)) (Naught k n (begins inner ps b more))
   back-further k n w ws r inner ps b more (take qs f) s′ i g = λ h a o d.
       let x = split V rules qs ps d in
       here-line (i (x .mid) (x .between) h _ o (x .one)) (x .two)
@@ -55,8 +51,8 @@ module _ {L : Type 0} (V : L → Type 0) (rules : (l : L) → Alts V l) where
   unleave (a-leave nil) = (refl, refl)
 
   back-inside : {l m : L} (k n : ℕ) (w : Word) (ws r : List Word) (inner : Alts V m) (b : V m → V l) (s : Step V (V m))
-    → ((us : List Word) → Backs k (suc n) w ws us s (Whole k (suc n) w ws us inner) (Naught k (suc n) inner))
-    → Backs k n w ws r (inside V s b) (Whole k n w ws r (enters inner b)) (Naught k n (enters inner b))
+      → ((us : List Word) → Backs k (suc n) w ws us s (Whole k (suc n) w ws us inner) (Naught k (suc n) inner))
+      → Backs k n w ws r (inside V s b) (Whole k n w ws r (enters inner b)) (Naught k n (enters inner b))
   back-inside k n w ws r inner b (take qs f) i = λ h a o d.
       let x = split V rules qs (leave ∷ []) d in
       let u = unleave (x .two) in
@@ -71,7 +67,7 @@ module _ {L : Type 0} (V : L → Type 0) (rules : (l : L) → Alts V l) where
   back-alts k n w ws r (empty t) = λ vs. here-empty
   back-alts k n w ws r (word j ps b more) =
       by-test (λ s. Backs k n w ws r s (Whole k n w ws r (word j ps b more)) (Naught k n (word j ps b more))) (sameKind j (w .kind)) (take ps b) (at V more (w .kind))
-        (λ e h a o d. here-word e d) (weaker k n w ws r (at V more (w .kind)) (λ t d. later-word d) (λ t d vs. later-word (d vs)) (back-alts k n w ws r more))
+      (λ e h a o d. here-word e d) (weaker k n w ws r (at V more (w .kind)) (λ t d. later-word d) (λ t d vs. later-word (d vs)) (back-alts k n w ws r more))
   back-alts k n w ws r (begins inner ps b more) =
       back-further k n w ws r inner ps b more (at V inner (w .kind)) (at V more (w .kind)) (λ h us. back-alts k h w ws us inner) (back-alts k n w ws r more)
   back-alts k n w ws r (enters inner b) = back-inside k n w ws r inner b (at V inner (w .kind)) (λ us. back-alts k (suc n) w ws us inner)
@@ -87,13 +83,13 @@ module _ {L : Type 0} (V : L → Type 0) (rules : (l : L) → Alts V l) where
   Any t = Unit {0}
 
   back-then : (k : ℕ) (w : Word) (ws : List Word) (l : L) (ps : List (Part L)) (s : Step V (V l)) (s′ : Step V (Means V ps))
-    → ((n : ℕ) (us : List Word) → Backs k n w ws us s (Whole k n w ws us (rules l)) (Naught k n (rules l))) → Backs k 0 w ws [] s′ (Stack k w ws ps) Any
-    → Backs k 0 w ws [] (then V s ps s′) (Stack k w ws (line l ∷ ps)) Any
+      → ((n : ℕ) (us : List Word) → Backs k n w ws us s (Whole k n w ws us (rules l)) (Naught k n (rules l))) → Backs k 0 w ws [] s′ (Stack k w ws ps) Any
+      → Backs k 0 w ws [] (then V s ps s′) (Stack k w ws (line l ∷ ps)) Any
   back-then k w ws l ps (take qs f) s′ i g = λ h a o d.
       let x = split V rules qs ps d in
       let e = is-depth V rules ps (x .two) in
       a-line (i (depth ps) (x .between) h _ o (subst (λ m. D′ k (parts h m qs) ws (x .between) (front V qs ps a)) e (x .one)))
-        (subst (λ m. D′ k (parts m 0 ps) (x .between) [] (rear V qs ps a)) e (x .two))
+      (subst (λ m. D′ k (parts m 0 ps) (x .between) [] (rear V qs ps a)) e (x .two))
   back-then k w ws l ps stop s′ i g = tt
   back-then k w ws l ps (pass t) (take qs f) i g = λ h a o d. a-line (i (depth ps) (w ∷ ws) (w ∷ ws)) (g h a o d)
   back-then k w ws l ps (pass t) stop i g = tt

@@ -1,19 +1,12 @@
 -- What a table derives, and that the machine's steps are derivations.
-use mathlib.Core.Path.{_≡_, refl, sym, ap, subst, _∙_}
-use mathlib.Core.Bool.{Bool, true, false, cond}
+use mathlib.Core.Path.{_≡_, refl, ap}
 use mathlib.Core.List.{List, [], _∷_, _++_}
-use mathlib.Core.Option.{Option, some, none}
-use Prim.Native.Nat.{ℕ, zero, suc, _+_, _≤_, _<_}
+use Prim.Native.Nat.{ℕ, suc, _≤_}
 use native.Mathlib.Omega.{arith}
-use lib.ListN.{length}
-use lib.Dec.{leb}
-use borrow.Author.Tests.{clash, leb-true, leb-false}
 use Rattle.lang.specs.declared.word.Kind.{Kind}
-use Rattle.lang.specs.Kinds.{sameKind}
 use Rattle.grammar.specs.Words.{Word, Is}
 use Rattle.grammar.specs.Grammar.{Within}
-use Rattle.grammar.specs.Machine.{Part, tok, line, leave, depth, Means, Alts, over, empty, word, begins, enters, Out, fine, bad, front, rear, nothing}
-use Rattle.grammar.proofs.Stepper.{Step, take, stop, pass, both, further, inside, at, then, shift, ending, finish, run}
+use Rattle.grammar.specs.Machine.{Part, tok, line, leave, depth, Means, Alts, empty, word, begins, enters, front, rear}
 
 -- parts, from one nest to another; or one of some alternatives
 pub data Goal {L : Type 0} (V : L → Type 0) : Type 0 where
@@ -31,15 +24,15 @@ pub data D {L : Type 0} (V : L → Type 0) (rules : (l : L) → Alts V l) (k : �
   a-leave : {h n : ℕ} {ps : List (Part L)} {ws r : List Word} {a : Means V ps} → D V rules k (parts h n ps) ws r a → D V rules k (parts (suc h) n (leave ∷ ps)) ws r a
   here-empty : {n : ℕ} {l : L} {t : V l} {ws : List Word} → D V rules k (alts n (empty t)) ws ws t
   here-word : {h n : ℕ} {l : L} {j : Kind} {ps : List (Part L)} {b : Word → Means V ps → V l} {more : Alts V l} {w : Word} {ws r : List Word} {a : Means V ps}
-    → Is j w → D V rules k (parts h n ps) ws r a → D V rules k (alts n (word j ps b more)) (w ∷ ws) r (b w a)
+      → Is j w → D V rules k (parts h n ps) ws r a → D V rules k (alts n (word j ps b more)) (w ∷ ws) r (b w a)
   here-line : {h n : ℕ} {l m : L} {inner : Alts V m} {ps : List (Part L)} {b : Word → V m → Means V ps → V l} {more : Alts V l} {w : Word} {ws us r : List Word} {t : V m} {a : Means V ps}
-    → D V rules k (alts h inner) (w ∷ ws) us t → D V rules k (parts h n ps) us r a → D V rules k (alts n (begins inner ps b more)) (w ∷ ws) r (b w t a)
+      → D V rules k (alts h inner) (w ∷ ws) us t → D V rules k (parts h n ps) us r a → D V rules k (alts n (begins inner ps b more)) (w ∷ ws) r (b w t a)
   here-enter : {n : ℕ} {l m : L} {inner : Alts V m} {b : V m → V l} {ws r : List Word} {t : V m}
-    → Within k (suc n) ws → D V rules k (alts (suc n) inner) ws r t → D V rules k (alts n (enters inner b)) ws r (b t)
+      → Within k (suc n) ws → D V rules k (alts (suc n) inner) ws r t → D V rules k (alts n (enters inner b)) ws r (b t)
   later-word : {n : ℕ} {l : L} {j : Kind} {ps : List (Part L)} {b : Word → Means V ps → V l} {more : Alts V l} {ws r : List Word} {t : V l}
-    → D V rules k (alts n more) ws r t → D V rules k (alts n (word j ps b more)) ws r t
+      → D V rules k (alts n more) ws r t → D V rules k (alts n (word j ps b more)) ws r t
   later-line : {n : ℕ} {l m : L} {inner : Alts V m} {ps : List (Part L)} {b : Word → V m → Means V ps → V l} {more : Alts V l} {ws r : List Word} {t : V l}
-    → D V rules k (alts n more) ws r t → D V rules k (alts n (begins inner ps b more)) ws r t
+      → D V rules k (alts n more) ws r t → D V rules k (alts n (begins inner ps b more)) ws r t
 
 module _ {L : Type 0} (V : L → Type 0) (rules : (l : L) → Alts V l) where
   -- parts in two halves
@@ -74,7 +67,7 @@ module _ {L : Type 0} (V : L → Type 0) (rules : (l : L) → Alts V l) where
   rear-joined (leave ∷ ps) qs a b = rear-joined ps qs a b
 
   pub join : {k : ℕ} (ps qs : List (Part L)) {h m n : ℕ} {ws us r : List Word} {a : Means V ps} {b : Means V qs}
-    → D V rules k (parts h m ps) ws us a → D V rules k (parts m n qs) us r b → D V rules k (parts h n (ps ++ qs)) ws r (joined ps qs a b)
+      → D V rules k (parts h m ps) ws us a → D V rules k (parts m n qs) us r b → D V rules k (parts h n (ps ++ qs)) ws r (joined ps qs a b)
   join [] qs nil e = e
   join (tok j ∷ ps) qs (a-tok x d) e = a-tok x (join ps qs d e)
   join (line l ∷ ps) qs (a-line x d) e = a-line x (join ps qs d e)

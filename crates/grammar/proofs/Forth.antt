@@ -2,19 +2,17 @@
 use mathlib.Core.Path.{_≡_, refl, sym, ap, subst, _∙_}
 use mathlib.Core.Bool.{Bool, true, false, cond}
 use mathlib.Core.List.{List, [], _∷_, _++_}
-use mathlib.Core.Option.{Option, some, none}
-use Prim.Native.Nat.{ℕ, zero, suc, _+_, _≤_, _<_}
+use mathlib.Core.Option.{some, none}
+use Prim.Native.Nat.{ℕ, suc}
 use native.Mathlib.Omega.{arith}
-use lib.ListN.{length}
-use lib.Dec.{leb}
-use borrow.Author.Tests.{clash, leb-true, leb-false}
+use borrow.Author.Tests.{clash}
 use Rattle.lang.specs.declared.word.Kind.{Kind}
 use Rattle.lang.specs.Kinds.{sameKind}
-use Rattle.grammar.specs.Words.{Word, Is}
+use Rattle.grammar.specs.Words.{Word}
 use Rattle.grammar.specs.Grammar.{Within}
-use Rattle.grammar.specs.Machine.{Part, tok, line, leave, depth, Means, Alts, over, empty, word, begins, enters, Out, fine, bad, front, rear, nothing}
-use Rattle.grammar.proofs.Stepper.{Step, take, stop, pass, both, further, inside, at, then, shift, ending, finish, run}
-use Rattle.grammar.proofs.Derive.{Goal, parts, alts, Meant, D, nil, a-tok, a-line, a-leave, here-empty, here-word, here-line, here-enter, later-word, later-line, join, joined, front-joined, rear-joined, nests, no-words, is-depth}
+use Rattle.grammar.specs.Machine.{Part, tok, line, leave, depth, Means, Alts, over, empty, word, begins, enters, rear, nothing}
+use Rattle.grammar.proofs.Stepper.{Step, take, stop, pass, both, further, inside, at, then, shift, ending}
+use Rattle.grammar.proofs.Derive.{Goal, parts, alts, Meant, D, nil, a-tok, a-line, a-leave, here-empty, here-word, here-line, here-enter, later-word, later-line, join, joined, front-joined, rear-joined, nests, no-words}
 
 pub data Came (A B : Type 0) : Type 0 where
   consumed : A → Came A B
@@ -85,16 +83,19 @@ module _ {L : Type 0} (V : L → Type 0) where
     took-takes k e n w ws r (pass y) t x = absurd x
 
     took-further : {R T : Type 0} (k n : ℕ) (w : Word) (ws us r : List Word) (s : Step V R) (t : R) (ps : List (Part L)) (b : Word → R → Means V ps → T) (a : Means V ps) (s′ : Step V T)
-      → Took k n n w ws us s t → D′ k (parts n n ps) us r a → Took k n n w ws r (further V s ps b s′) (b w t a)
-    took-further k n w ws us r (take qs f) t ps b a s′ x d =
-        (x .0, joined V rules qs ps (x .1) a, join V rules qs ps (x .2) d,
-          ap (λ z. b w (f w z) (rear V qs ps (joined V rules qs ps (x .1) a))) (front-joined V rules qs ps (x .1) a) ∙ ap (λ z. b w (f w (x .1)) z) (rear-joined V rules qs ps (x .1) a) ∙ ap (λ z. b w z a) (x .3),
-          x .4)
+        → Took k n n w ws us s t → D′ k (parts n n ps) us r a → Took k n n w ws r (further V s ps b s′) (b w t a)
+    took-further k n w ws us r (take qs f) t ps b a s′ x d = (
+      x .0,
+      joined V rules qs ps (x .1) a,
+      join V rules qs ps (x .2) d,
+      ap (λ z. b w (f w z) (rear V qs ps (joined V rules qs ps (x .1) a))) (front-joined V rules qs ps (x .1) a) ∙ ap (λ z. b w (f w (x .1)) z) (rear-joined V rules qs ps (x .1) a) ∙ ap (λ z. b w z a) (x .3),
+      x .4,
+    )
     took-further k n w ws us r stop t ps b a s′ x d = absurd x
     took-further k n w ws us r (pass y) t ps b a s′ x d = absurd x
 
     took-inside : {R T : Type 0} (k n : ℕ) (w : Word) (ws r : List Word) (s : Step V R) (t : R) (b : R → T)
-      → Within k (suc n) (w ∷ ws) → Took k (suc n) (suc n) w ws r s t → Took k n n w ws r (inside V s b) (b t)
+        → Within k (suc n) (w ∷ ws) → Took k (suc n) (suc n) w ws r s t → Took k n n w ws r (inside V s b) (b t)
     took-inside k n w ws r (take qs f) t b o x =
         (x .0, joined V rules qs (leave ∷ []) (x .1) tt, join V rules qs (leave ∷ []) (x .2) (a-leave nil), ap b (ap (f w) (front-joined V rules qs (leave ∷ []) (x .1) tt) ∙ x .3), λ z. x .4 o)
     took-inside k n w ws r stop t b o x = absurd x
@@ -108,12 +109,12 @@ module _ {L : Type 0} (V : L → Type 0) where
     forth-alts k n w ws r (empty x) t q here-empty = passed (refl, refl)
     forth-alts k n w ws r (word j ps b more) t q (here-word {a = a} e d) =
         consumed (on-true (λ s. Took k n n w ws r s (b w a)) (sameKind j (w .kind)) (take ps b) (at V more (w .kind)) e
-          (n, a, subst (λ h. D′ k (parts h n ps) ws r a) (nests V rules ps d (q .1)) d, refl, λ o. o))
+        (n, a, subst (λ h. D′ k (parts h n ps) ws r a) (nests V rules ps d (q .1)) d, refl, λ o. o))
     forth-alts k n w ws r (word j ps b more) t q (later-word d) = on (forth-alts k n w ws r more t (q .2) d)
       where
         on : Forth k n w ws r more t → Forth k n w ws r (word j ps b more) t
         on (consumed x) = consumed (on-false (λ s. Took k n n w ws r s t) (sameKind j (w .kind)) (take ps b) (at V more (w .kind))
-          (λ e. clash (sym (q .0 (w .kind) e) ∙ took-takes k n n w ws r (at V more (w .kind)) t x)) x)
+            (λ e. clash (sym (q .0 (w .kind) e) ∙ took-takes k n n w ws r (at V more (w .kind)) t x)) x)
         on (passed x) = passed x
     forth-alts k n w ws r (begins inner ps b more) t q (here-line {h = h} {us = us} {t = x} {a = a} d e) =
         let z = nests V rules ps e (q .1) in
@@ -126,7 +127,7 @@ module _ {L : Type 0} (V : L → Type 0) where
       where
         on : Forth k n w ws r more t → Forth k n w ws r (begins inner ps b more) t
         on (consumed x) = consumed (past-further (λ s. Took k n n w ws r s t) (at V inner (w .kind)) ps b (at V more (w .kind))
-          (λ e. clash (sym (q .0 (w .kind) e) ∙ took-takes k n n w ws r (at V more (w .kind)) t x)) x)
+            (λ e. clash (sym (q .0 (w .kind) e) ∙ took-takes k n n w ws r (at V more (w .kind)) t x)) x)
         on (passed x) = passed x
     forth-alts k n w ws r (enters inner b) t q (here-enter {t = x} o d) = on (forth-alts k (suc n) w ws r inner x (q .1) d)
       where
@@ -281,18 +282,23 @@ module _ {L : Type 0} (V : L → Type 0) where
               on (forth-alts k h w ws us (rules l) t (ll l) d) (λ e. forth k h w ws ps b (g .1) e)
             where
               took-then : (s : Step V (V l)) (s′ : Step V (Means V ps)) → Took k h h w ws us s t → Took k h 0 w ws [] (then V s ps s′) (t, b)
-              took-then (take qs f) s′ x =
-                  (x .0, joined V rules qs ps (x .1) b, join V rules qs ps (x .2) e,
-                    ap (λ z. (f w z, rear V qs ps (joined V rules qs ps (x .1) b))) (front-joined V rules qs ps (x .1) b) ∙ ap (λ z. (f w (x .1), z)) (rear-joined V rules qs ps (x .1) b) ∙ ap (λ z. (z, b)) (x .3),
-                    x .4)
+              took-then (take qs f) s′ x = (
+                x .0,
+                joined V rules qs ps (x .1) b,
+                join V rules qs ps (x .2) e,
+                ap (λ z. (f w z, rear V qs ps (joined V rules qs ps (x .1) b))) (front-joined V rules qs ps (x .1) b) ∙ ap (λ z. (f w (x .1), z)) (rear-joined V rules qs ps (x .1) b) ∙ ap (λ z. (z, b)) (x .3),
+                x .4,
+              )
               took-then stop s′ x = absurd x
               took-then (pass y) s′ x = absurd x
+
               took-pass : (s′ : Step V (Means V ps)) → Took k h 0 w ws [] s′ b → Took k h 0 w ws [] (then V (pass t) ps s′) (t, b)
               took-pass (take qs f) x = (x .0, x .1, x .2, ap (λ z. (t, z)) (x .3), x .4)
               took-pass stop x = absurd x
               took-pass (pass y) x = absurd x
+
               on : Forth k h w ws us (rules l) t → (D′ k (parts h 0 ps) (w ∷ ws) [] b → Took k h 0 w ws [] (shift V rules ps (w .kind)) b)
-                → Took k h 0 w ws [] (then V (at V (rules l) (w .kind)) ps (shift V rules ps (w .kind))) (t, b)
+                  → Took k h 0 w ws [] (then V (at V (rules l) (w .kind)) ps (shift V rules ps (w .kind))) (t, b)
               on (consumed x) i = took-then (at V (rules l) (w .kind)) (shift V rules ps (w .kind)) x
               on (passed x) i =
                   let y = i (subst (λ us. D′ k (parts h 0 ps) us [] b) (x .0) e) in

@@ -2,7 +2,7 @@
 use mathlib.Core.Path.{_≡_, refl, sym, ap, _∙_}
 use mathlib.Core.Bool.{Bool, true, false, cond}
 use mathlib.Core.List.{List, [], _∷_, _++_}
-use Prim.Native.Nat.{ℕ, suc, _≤_, _<_}
+use Prim.Native.Nat.{_≤_, _<_}
 use native.Mathlib.Omega.{arith}
 use lib.Dec.{leb}
 use borrow.Author.Tests.{clash, lt-leb}
@@ -11,9 +11,9 @@ use Rattle.lang.specs.Kinds.{sameKind}
 use Rattle.meaning.specs.Tree.{Command, no-args, no-data, no-routines, no-commands, then}
 use Rattle.grammar.specs.Words.{Word}
 use Rattle.grammar.specs.Grammar.{command-line, datum-line, routine-line, some-args}
-use Rattle.grammar.specs.Machine.{Part, tok, line, leave, depth, Means, Alts, over, empty, word, begins, enters, Out, bad, skip, front, rear, nothing, pick, next, run}
+use Rattle.grammar.specs.Machine.{Part, tok, line, leave, depth, Means, Alts, over, empty, word, begins, enters, Out, bad, skip, front, rear, nothing, pick}
 use Rattle.grammar.specs.Table.{Row, the, data-more, routines-more, commands-more, Meant, rules}
-use Rattle.grammar.specs.Lines.{starts, onward, Unbegun, Begun-too-deep, Counts, Operands, Listed, Lists, Lines-hold}
+use Rattle.grammar.specs.Lines.{starts, onward, Unbegun, Begun-too-deep, Counts, Operands, Lists, Lines-hold}
 
 neither-left : (a b : Bool) → cond a true b ≡ false → a ≡ false
 neither-left true b e = absurd (clash (sym e))
@@ -41,7 +41,7 @@ module _ (w : Word) (go : (ps : List (Part Row)) → (Means Meant ps → Command
   picks-none (word j qs b more) ps f s e = on (sameKind j (w .kind)) e (picks-none more ps f s)
     where
       on : (c : Bool) → cond c true (starts more (w .kind)) ≡ false → (starts more (w .kind) ≡ false → pick Meant w go more ps f s ≡ s)
-        → cond c (go (qs ++ ps) (λ a. f (b w (front Meant qs ps a)) (rear Meant qs ps a))) (pick Meant w go more ps f s) ≡ s
+          → cond c (go (qs ++ ps) (λ a. f (b w (front Meant qs ps a)) (rear Meant qs ps a))) (pick Meant w go more ps f s) ≡ s
       on true e i = absurd (clash (sym e))
       on false e i = i e
   picks-none (begins inner qs b more) ps f s e =
@@ -50,14 +50,14 @@ module _ (w : Word) (go : (ps : List (Part Row)) → (Means Meant ps → Command
 
   -- it begins one: what is done otherwise does not matter
   picks-one : {l : Row} (us : Alts Meant l) (ps : List (Part Row)) (f : Meant l → Means Meant ps → Command) (s s′ : Out Command) → starts us (w .kind) ≡ true
-    → pick Meant w go us ps f s ≡ pick Meant w go us ps f s′
+      → pick Meant w go us ps f s ≡ pick Meant w go us ps f s′
   picks-one over ps f s s′ e = absurd (clash e)
   picks-one (empty t) ps f s s′ e = absurd (clash e)
   picks-one (word j qs b more) ps f s s′ e = on (sameKind j (w .kind)) e (picks-one more ps f s s′)
     where
       on : (c : Bool) → cond c true (starts more (w .kind)) ≡ true → (starts more (w .kind) ≡ true → pick Meant w go more ps f s ≡ pick Meant w go more ps f s′)
-        → cond c (go (qs ++ ps) (λ a. f (b w (front Meant qs ps a)) (rear Meant qs ps a))) (pick Meant w go more ps f s)
-        ≡ cond c (go (qs ++ ps) (λ a. f (b w (front Meant qs ps a)) (rear Meant qs ps a))) (pick Meant w go more ps f s′)
+          → cond c (go (qs ++ ps) (λ a. f (b w (front Meant qs ps a)) (rear Meant qs ps a))) (pick Meant w go more ps f s)
+          ≡ cond c (go (qs ++ ps) (λ a. f (b w (front Meant qs ps a)) (rear Meant qs ps a))) (pick Meant w go more ps f s′)
       on true e i = refl
       on false e i = i e
   picks-one (begins inner qs b more) ps f s s′ e = one-of (starts inner (w .kind)) (starts more (w .kind)) e
@@ -68,13 +68,13 @@ module _ (w : Word) (go : (ps : List (Part Row)) → (Means Meant ps → Command
   -- it begins one inside too many lines
   module _ (no : Out Command) (too-deep : (ps : List (Part Row)) (f : Means Meant ps → Command) → 64 < depth ps → go ps f ≡ no) where
     picks-deep : {l : Row} (us : Alts Meant l) (ps : List (Part Row)) (f : Meant l → Means Meant ps → Command) (s : Out Command) → starts us (w .kind) ≡ true → 64 < depth ps
-      → pick Meant w go us ps f s ≡ no
+        → pick Meant w go us ps f s ≡ no
     picks-deep over ps f s e d = absurd (clash e)
     picks-deep (empty t) ps f s e d = absurd (clash e)
     picks-deep (word j qs b more) ps f s e d = on (sameKind j (w .kind)) e (λ h. picks-deep more ps f s h d)
       where
         on : (c : Bool) → cond c true (starts more (w .kind)) ≡ true → (starts more (w .kind) ≡ true → pick Meant w go more ps f s ≡ no)
-          → cond c (go (qs ++ ps) (λ a. f (b w (front Meant qs ps a)) (rear Meant qs ps a))) (pick Meant w go more ps f s) ≡ no
+            → cond c (go (qs ++ ps) (λ a. f (b w (front Meant qs ps a)) (rear Meant qs ps a))) (pick Meant w go more ps f s) ≡ no
         on true e i = too-deep (qs ++ ps) (λ a. f (b w (front Meant qs ps a)) (rear Meant qs ps a)) (omega (arith, d, deeper qs ps))
         on false e i = i e
     picks-deep (begins inner qs b more) ps f s e d = one-of (starts inner (w .kind)) (starts more (w .kind)) e
@@ -89,13 +89,13 @@ on-from w ws ps f = cond (leb (depth ps) 64) (onward ws ps f) (bad NestTooDeep (
 unbegun : (l : Row) (ps : List (Part Row)) (f : Means Meant (line l ∷ ps) → Command) → Unbegun l ps f
 unbegun l ps f = record {
   at-word = λ w ws e. picks-none w (on-from w ws) (rules l) ps (λ t a. f (t, a)) (skip (nothing Meant (rules l)) (w ∷ ws) (λ t. onward (w ∷ ws) ps (λ a. f (t, a)))) e;
-  at-end = refl
+  at-end = refl;
 }
 
 too-deep : Begun-too-deep
 too-deep l w ws ps f e d =
     picks-deep w (on-from w ws) (bad NestTooDeep (w ∷ ws)) (λ qs g h. ap (λ c. cond c (onward ws qs g) (bad NestTooDeep (w ∷ ws))) (lt-leb (depth qs) 64 h))
-      (rules l) ps (λ t a. f (t, a)) (skip (nothing Meant (rules l)) (w ∷ ws) (λ t. onward (w ∷ ws) ps (λ a. f (t, a)))) e d
+    (rules l) ps (λ t a. f (t, a)) (skip (nothing Meant (rules l)) (w ∷ ws) (λ t. onward (w ∷ ws) ps (λ a. f (t, a)))) e d
 
 counts : (ws : List Word) (ps : List (Part Row)) → Counts ws ps
 counts [] ps = record { command = λ f. refl; expr = λ f. refl; prefix = λ f. refl; left = λ f. refl }
@@ -108,7 +108,7 @@ operands = record {
   test = λ w ws ps f. refl;
   sum = λ w ws ps f. refl;
   product = λ w ws ps f. refl;
-  args = λ w ws ps f. refl
+  args = λ w ws ps f. refl;
 }
 
 lists : Lists
@@ -119,7 +119,7 @@ lists = record {
   routines-next = λ w ws ps f e. picks-one w (on-from w ws) (rules (the routine-line)) (line routines-more ∷ ps) (λ t a. f ((λ rs. a .0 (t rs)), a .1)) (onward (w ∷ ws) ps (λ a. f ((λ rs. rs), a))) (bad Unexpected (w ∷ ws)) e;
   commands-first = λ w ws ps f e. picks-one w (on-from w ws) (rules (the command-line)) (line commands-more ∷ ps) (λ t a. f (a .0 (then no-commands t), a .1)) (onward (w ∷ ws) ps (λ a. f (no-commands, a))) (bad Unexpected (w ∷ ws)) e;
   commands-next = λ w ws ps f e. picks-one w (on-from w ws) (rules (the command-line)) (line commands-more ∷ ps) (λ t a. f ((λ cs. a .0 (then cs t)), a .1)) (onward (w ∷ ws) ps (λ a. f ((λ cs. cs), a))) (bad Unexpected (w ∷ ws)) e;
-  args-some = λ w ws ps f e. picks-one w (on-from w ws) (rules (the some-args)) ps (λ t a. f (t, a)) (onward (w ∷ ws) ps (λ a. f (no-args, a))) (bad Unexpected (w ∷ ws)) e
+  args-some = λ w ws ps f e. picks-one w (on-from w ws) (rules (the some-args)) ps (λ t a. f (t, a)) (onward (w ∷ ws) ps (λ a. f (no-args, a))) (bad Unexpected (w ∷ ws)) e;
 }
 
 pub lines-hold : Lines-hold

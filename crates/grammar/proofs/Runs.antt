@@ -7,16 +7,13 @@ use Prim.Native.Nat.{ℕ, zero, suc, _+_, _≤_, _<_}
 use native.Mathlib.Omega.{arith}
 use lib.ListN.{length}
 use lib.Dec.{leb}
-use borrow.Author.Tests.{clash, leb-true, leb-false}
+use borrow.Author.Tests.{leb-true, leb-false, eq-eqb, le-leb}
 use Rattle.lang.specs.declared.word.Kind.{Kind}
 use Rattle.lang.specs.declared.refusal.Refusal.{Refusal}
 use Rattle.lang.specs.declared.refusal.Refusal.the-variants.{Unexpected, NestTooDeep}
-use Rattle.lang.specs.Kinds.{sameKind}
-use Rattle.grammar.specs.Words.{Word, Is}
-use Rattle.grammar.specs.Grammar.{Within}
-use Rattle.grammar.specs.Machine.{Part, tok, line, leave, depth, Means, Alts, over, empty, word, begins, enters, Out, fine, bad, front, rear, nothing}
-use Rattle.grammar.proofs.Stepper.{Step, take, stop, pass, both, further, inside, at, then, shift, ending, finish, run}
-use borrow.Author.Tests.{eq-eqb, le-leb}
+use Rattle.grammar.specs.Words.{Word}
+use Rattle.grammar.specs.Machine.{Part, tok, line, leave, depth, Means, Alts, word, Out, fine, bad, nothing}
+use Rattle.grammar.proofs.Stepper.{Step, take, stop, pass, at, shift, ending, finish, run}
 use Rattle.grammar.proofs.Derive.{Goal, parts, alts, Meant, D, nil, a-tok, a-line, a-leave, here-empty, here-word, here-line, here-enter, later-word, later-line, is-depth}
 use Rattle.grammar.proofs.Back.{Backs, Stack, Any, back, Ended, ended}
 use Rattle.grammar.proofs.Forth.{LL, Took, takes, ends, none-of, Good, Keeps, GoodStep, good, forth}
@@ -100,7 +97,7 @@ module _ {L : Type 0} (V : L → Type 0) (rules : (l : L) → Alts V l) where
 
   -- the machine answers so, or so, or so
   pub answers : {T : Type 0} (A : Type 0) (ws : List Word) (ps : List (Part L)) (f : Means V ps → T)
-    → ((t : T) → run V rules ws ps f ≡ fine t → A) → ((q : List Word) → run V rules ws ps f ≡ bad Unexpected q → A) → ((q : List Word) → run V rules ws ps f ≡ bad NestTooDeep q → A) → A
+      → ((t : T) → run V rules ws ps f ≡ fine t → A) → ((q : List Word) → run V rules ws ps f ≡ bad Unexpected q → A) → ((q : List Word) → run V rules ws ps f ≡ bad NestTooDeep q → A) → A
   answers A [] ps f x y z = on (ending V rules ps) x y
     where
       on : (o : Option (Means V ps)) → ((t : _) → finish V rules o f ≡ fine t → A) → ((q : List Word) → finish V rules o f ≡ bad Unexpected q → A) → A
@@ -109,12 +106,13 @@ module _ {L : Type 0} (V : L → Type 0) (rules : (l : L) → Alts V l) where
   answers {T} A (w ∷ ws) ps f x y z = on (shift V rules ps (w .kind)) (λ qs g. answers A ws qs (λ a. f (g w a))) x y z
     where
       by-depth : (c : Bool) (o : Out T) (v : List Word) → (((t : T) → o ≡ fine t → A) → ((q : List Word) → o ≡ bad Unexpected q → A) → ((q : List Word) → o ≡ bad NestTooDeep q → A) → A)
-        → ((t : T) → cond c o (bad NestTooDeep v) ≡ fine t → A) → ((q : List Word) → cond c o (bad NestTooDeep v) ≡ bad Unexpected q → A) → ((q : List Word) → cond c o (bad NestTooDeep v) ≡ bad NestTooDeep q → A) → A
+          → ((t : T) → cond c o (bad NestTooDeep v) ≡ fine t → A) → ((q : List Word) → cond c o (bad NestTooDeep v) ≡ bad Unexpected q → A) → ((q : List Word) → cond c o (bad NestTooDeep v) ≡ bad NestTooDeep q → A) → A
       by-depth true o v i x y z = i x y z
       by-depth false o v i x y z = z v refl
+
       on : (s : Step V (Means V ps))
-        → ((qs : List (Part L)) (g : Word → Means V qs → Means V ps) → ((t : T) → run V rules ws qs (λ a. f (g w a)) ≡ fine t → A) → ((q : List Word) → run V rules ws qs (λ a. f (g w a)) ≡ bad Unexpected q → A) → ((q : List Word) → run V rules ws qs (λ a. f (g w a)) ≡ bad NestTooDeep q → A) → A)
-        → ((t : T) → go w ws ps f s ≡ fine t → A) → ((q : List Word) → go w ws ps f s ≡ bad Unexpected q → A) → ((q : List Word) → go w ws ps f s ≡ bad NestTooDeep q → A) → A
+          → ((qs : List (Part L)) (g : Word → Means V qs → Means V ps) → ((t : T) → run V rules ws qs (λ a. f (g w a)) ≡ fine t → A) → ((q : List Word) → run V rules ws qs (λ a. f (g w a)) ≡ bad Unexpected q → A) → ((q : List Word) → run V rules ws qs (λ a. f (g w a)) ≡ bad NestTooDeep q → A) → A)
+          → ((t : T) → go w ws ps f s ≡ fine t → A) → ((q : List Word) → go w ws ps f s ≡ bad Unexpected q → A) → ((q : List Word) → go w ws ps f s ≡ bad NestTooDeep q → A) → A
       on (take qs g) i x y z = by-depth (leb (depth qs) 64) (run V rules ws qs (λ a. f (g w a))) (w ∷ ws) (i qs g) x y z
       on stop i x y z = y (w ∷ ws) refl
       on (pass a) i x y z = y (w ∷ ws) refl
@@ -134,9 +132,9 @@ module _ {L : Type 0} (V : L → Type 0) (rules : (l : L) → Alts V l) where
   sound k (w ∷ ws) ps f t e = on (shift V rules ps (w .kind)) (back V rules k w ws ps) (λ qs g x. sound k ws qs (λ a. f (g w a)) t x) e
     where
       on : (s : Step V (Means V ps)) → Backs V rules k 0 w ws [] s (Stack V rules k w ws ps) (Any V rules)
-        → ((qs : List (Part L)) (g : Word → Means V qs → Means V ps) → run V rules ws qs (λ a. f (g w a)) ≡ fine t → Derived k qs (λ a. f (g w a)) ws t)
-        → (elim s [ take qs g ↦ let r = run V rules ws qs (λ a. f (g w a)) in cond (leb (depth qs) 64) r (bad NestTooDeep (w ∷ ws)) | stop ↦ bad Unexpected (w ∷ ws) | pass a ↦ bad Unexpected (w ∷ ws) ]) ≡ fine t
-        → Derived k ps f (w ∷ ws) t
+          → ((qs : List (Part L)) (g : Word → Means V qs → Means V ps) → run V rules ws qs (λ a. f (g w a)) ≡ fine t → Derived k qs (λ a. f (g w a)) ws t)
+          → (elim s [ take qs g ↦ let r = run V rules ws qs (λ a. f (g w a)) in cond (leb (depth qs) 64) r (bad NestTooDeep (w ∷ ws)) | stop ↦ bad Unexpected (w ∷ ws) | pass a ↦ bad Unexpected (w ∷ ws) ]) ≡ fine t
+          → Derived k ps f (w ∷ ws) t
       on (take qs g) b i e = by-depth (leb (depth qs) 64) refl e
         where
           by-depth : (c : Bool) → leb (depth qs) 64 ≡ c → cond c (run V rules ws qs (λ a. f (g w a))) (bad NestTooDeep (w ∷ ws)) ≡ fine t → Derived k ps f (w ∷ ws) t
@@ -170,8 +168,8 @@ module _ {L : Type 0} (V : L → Type 0) (rules : (l : L) → Alts V l) where
         on (shift V rules ps (w .kind)) (goods w ps g) (forths w ps g 0 ws a d) (λ qs h b. complete ws qs (λ a. f (h w a)) b)
       where
         on : (s : Step V (Means V ps)) → FineStep s → Took V rules 0 (depth ps) 0 w ws [] s a
-          → ((qs : List (Part L)) (h : Word → Means V qs → Means V ps) (b : Means V qs) → Fine qs → depth qs ≤ 64 → D′ 0 (parts (depth qs) 0 qs) ws [] b → run V rules ws qs (λ a. f (h w a)) ≡ fine (f (h w b)))
-          → go w ws ps f s ≡ fine (f a)
+            → ((qs : List (Part L)) (h : Word → Means V qs → Means V ps) (b : Means V qs) → Fine qs → depth qs ≤ 64 → D′ 0 (parts (depth qs) 0 qs) ws [] b → run V rules ws qs (λ a. f (h w a)) ≡ fine (f (h w b)))
+            → go w ws ps f s ≡ fine (f a)
         on (take qs h) q x i =
             let e = is-depth V rules qs (x .2) in
             let m : depth qs ≤ 64 = subst (λ n. n ≤ 64) e (x .4 (λ z. o) (omega arith)) in
@@ -188,7 +186,7 @@ module _ {L : Type 0} (V : L → Type 0) (rules : (l : L) → Alts V l) where
     unique j k (w ∷ ws) ps a b g d e = on (shift V rules ps (w .kind)) (goods w ps g) (forths w ps g j ws a d) (forths w ps g k ws b e) (λ qs x y. unique j k ws qs x y)
       where
         on : (s : Step V (Means V ps)) → FineStep s → Took V rules j (depth ps) 0 w ws [] s a → Took V rules k (depth ps) 0 w ws [] s b
-          → ((qs : List (Part L)) (x y : Means V qs) → Fine qs → D′ j (parts (depth qs) 0 qs) ws [] x → D′ k (parts (depth qs) 0 qs) ws [] y → x ≡ y) → a ≡ b
+            → ((qs : List (Part L)) (x y : Means V qs) → Fine qs → D′ j (parts (depth qs) 0 qs) ws [] x → D′ k (parts (depth qs) 0 qs) ws [] y → x ≡ y) → a ≡ b
         on (take qs h) q x y i =
             sym (x .3) ∙ ap (h w) (i qs (x .1) (y .1) q (subst (λ n. D′ j (parts n 0 qs) ws [] (x .1)) (is-depth V rules qs (x .2)) (x .2)) (subst (λ n. D′ k (parts n 0 qs) ws [] (y .1)) (is-depth V rules qs (y .2)) (y .2))) ∙ y .3
         on stop q x y i = absurd x
@@ -250,10 +248,11 @@ module _ {L : Type 0} (V : L → Type 0) (rules : (l : L) → Alts V l) where
 
       off-on : (w : Word) (ws r : List Word) (ps qs : List (Part L)) (h : Word → Means V qs → Means V ps) → Forths w ps (take qs h) → Back w ps (take qs h) → depth qs ≤ 64 → Off qs ws r → Off ps (w ∷ ws) r
       off-on w ws r ps qs h f b o x = record {
-          before = w ∷ x .before; parted = ap (λ z. w ∷ z) (x .parted);
-          viable = (x .viable .0, unstepped w ps qs h b o (suc (length (x .viable .0))) (x .before ++ x .viable .0) (x .viable .1));
-          no-more = lasts r (x .no-more)
-        }
+        before = w ∷ x .before;
+        parted = ap (λ z. w ∷ z) (x .parted);
+        viable = (x .viable .0, unstepped w ps qs h b o (suc (length (x .viable .0))) (x .before ++ x .viable .0) (x .viable .1));
+        no-more = lasts r (x .no-more);
+      }
         where
           lasts : (r : List Word) → NoMore qs (x .before) r → NoMore ps (w ∷ x .before) r
           lasts [] n = λ k y. n k (stepped w ps qs h f k (x .before) y)
@@ -279,8 +278,8 @@ module _ {L : Type 0} (V : L → Type 0) (rules : (l : L) → Alts V l) where
           on (shift V rules ps (w .kind)) (goods w ps g) (forths w ps g) (λ k ws. back V rules k w ws ps) (λ qs h. leaves ws r qs (λ a. f (h w a))) e
         where
           on : (s : Step V (Means V ps)) → FineStep s → Forths w ps s → Back w ps s
-            → ((qs : List (Part L)) (h : Word → Means V qs → Means V ps) → Fine qs → run V rules ws qs (λ a. f (h w a)) ≡ bad Unexpected r → Off qs ws r)
-            → go w ws ps f s ≡ bad Unexpected r → Off ps (w ∷ ws) r
+              → ((qs : List (Part L)) (h : Word → Means V qs → Means V ps) → Fine qs → run V rules ws qs (λ a. f (h w a)) ≡ bad Unexpected r → Off qs ws r)
+              → go w ws ps f s ≡ bad Unexpected r → Off ps (w ∷ ws) r
           on (take qs h) q x b i e = by-depth (leb (depth qs) 64) refl e
             where
               by-depth : (c : Bool) → leb (depth qs) 64 ≡ c → cond c (run V rules ws qs (λ a. f (h w a))) (bad NestTooDeep (w ∷ ws)) ≡ bad Unexpected r → Off ps (w ∷ ws) r
@@ -300,25 +299,33 @@ module _ {L : Type 0} (V : L → Type 0) (rules : (l : L) → Alts V l) where
           on (shift V rules ps (w .kind)) (goods w ps g) (forths w ps g) (λ k ws. back V rules k w ws ps) (λ qs h. deep ws r qs (λ a. f (h w a))) e
         where
           on : (s : Step V (Means V ps)) → FineStep s → Forths w ps s → Back w ps s
-            → ((qs : List (Part L)) (h : Word → Means V qs → Means V ps) → Fine qs → depth qs ≤ 64 → run V rules ws qs (λ a. f (h w a)) ≡ bad NestTooDeep r → Deep qs ws r)
-            → go w ws ps f s ≡ bad NestTooDeep r → Deep ps (w ∷ ws) r
+              → ((qs : List (Part L)) (h : Word → Means V qs → Means V ps) → Fine qs → depth qs ≤ 64 → run V rules ws qs (λ a. f (h w a)) ≡ bad NestTooDeep r → Deep qs ws r)
+              → go w ws ps f s ≡ bad NestTooDeep r → Deep ps (w ∷ ws) r
           on (take qs h) q x b i e = by-depth (leb (depth qs) 64) refl e
             where
               by-depth : (c : Bool) → leb (depth qs) 64 ≡ c → cond c (run V rules ws qs (λ a. f (h w a))) (bad NestTooDeep (w ∷ ws)) ≡ bad NestTooDeep r → Deep ps (w ∷ ws) r
               by-depth true c e =
                   let y = i qs h q (leb-true _ 64 c) e in
                   record {
-                    before = w ∷ y .before; word = y .word; after = y .after; here = y .here; parted = ap (λ z. w ∷ z) (y .parted);
+                    before = w ∷ y .before;
+                    word = y .word;
+                    after = y .after;
+                    here = y .here;
+                    parted = ap (λ z. w ∷ z) (y .parted);
                     so-far = (y .so-far .0, unstepped w ps qs h b (leb-true _ 64 c) (suc (length (y .word ∷ y .so-far .0))) (y .before ++ y .word ∷ y .so-far .0) (y .so-far .1));
-                    no-more = λ vs z. y .no-more vs (stepped w ps qs h x (length (y .word ∷ vs)) (y .before ++ y .word ∷ vs) z)
+                    no-more = λ vs z. y .no-more vs (stepped w ps qs h x (length (y .word ∷ vs)) (y .before ++ y .word ∷ vs) z);
                   }
               by-depth false c e =
                   let v = fill qs in
                   let n = suc (length (w ∷ v .0)) in
                   record {
-                    before = []; word = w; after = ws; here = sym (the-rest NestTooDeep (w ∷ ws) r e); parted = sym (the-rest NestTooDeep (w ∷ ws) r e);
+                    before = [];
+                    word = w;
+                    after = ws;
+                    here = sym (the-rest NestTooDeep (w ∷ ws) r e);
+                    parted = sym (the-rest NestTooDeep (w ∷ ws) r e);
                     so-far = (v .0, (h w (v .1), b n (v .0) (depth qs) (v .1) (λ z. absurd (omega (arith, z))) (v .2 n (omega arith))));
-                    no-more = λ vs z. let y = x (length (w ∷ vs)) vs (z .0) (z .1) in omega (arith, y .4 (λ u. o) (omega arith), is-depth V rules qs (y .2), leb-false _ 64 c)
+                    no-more = λ vs z. let y = x (length (w ∷ vs)) vs (z .0) (z .1) in omega (arith, y .4 (λ u. o) (omega arith), is-depth V rules qs (y .2), leb-false _ 64 c);
                   }
           on stop q x b i e = bad-apart _ _ _ (sym e)
           on (pass a) q x b i e = bad-apart _ _ _ (sym e)

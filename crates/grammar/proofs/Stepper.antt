@@ -1,5 +1,5 @@
 -- The machine in steps, each of them a value: what one word does comes first, and then the machine goes on.
-use mathlib.Core.Bool.{Bool, cond}
+use mathlib.Core.Bool.{cond}
 use mathlib.Core.List.{List, [], _∷_, _++_}
 use mathlib.Core.Option.{Option, some, none}
 use lib.Dec.{leb}
@@ -66,6 +66,7 @@ module _ {L : Type 0} (V : L → Type 0) where
     abbrev pub run : {T : Type 0} → (ws : List Word) (ps : List (Part L)) → (Means V ps → T) → Out T
     run [] ps f = finish (ending ps) f
     run (w ∷ ws) ps f = elim (shift ps (w .kind)) [
-        take qs g ↦ let r = run ws qs (λ a. f (g w a)) in cond (leb (depth qs) 64) r (bad NestTooDeep (w ∷ ws))
+      | take qs g ↦ let r = run ws qs (λ a. f (g w a)) in cond (leb (depth qs) 64) r (bad NestTooDeep (w ∷ ws))
       | stop ↦ bad Unexpected (w ∷ ws)
-      | pass a ↦ bad Unexpected (w ∷ ws) ]
+      | pass a ↦ bad Unexpected (w ∷ ws)
+    ]

@@ -8,7 +8,7 @@ use Rattle.meaning.specs.Tree.{Command}
 use Rattle.grammar.specs.Words.{Word}
 use Rattle.grammar.specs.Grammar.{Text}
 use Rattle.grammar.specs.Refusals.{Leaves, TooDeep}
-use Rattle.grammar.specs.Machine.{Out, fine, bad}
+use Rattle.grammar.specs.Machine.{fine, bad}
 use Rattle.grammar.specs.Table.{reading}
 
 -- Words are read as a tree exactly if they are a text of it, they are refused by 7 (Unexpected) exactly where they leave the grammar and by 8

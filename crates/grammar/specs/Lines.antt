@@ -1,5 +1,5 @@
 -- The machine line by line, as a reader with one function for each line goes: each law holds for whatever is to come after the line.
-use Prim.Native.Nat.{ℕ, _<_}
+use Prim.Native.Nat.{_<_}
 use mathlib.Core.Path.{_≡_}
 use mathlib.Core.Bool.{Bool, true, false, cond}
 use mathlib.Core.List.{List, [], _∷_}
@@ -8,7 +8,7 @@ use Rattle.lang.specs.declared.refusal.Refusal.the-variants.{NestTooDeep}
 use Rattle.lang.specs.Kinds.{sameKind}
 use Rattle.meaning.specs.Tree.{no-args, arg, no-data, no-routines, Command, no-commands, then}
 use Rattle.grammar.specs.Words.{Word}
-use Rattle.grammar.specs.Grammar.{Line, command-line, in-command, data-line, routines-line, commands-line, datum-line, routine-line, args-line, some-args, expr-line, in-expr, either-line, both-line, test-line, sum-line, product-line, prefix-line, in-prefix}
+use Rattle.grammar.specs.Grammar.{command-line, in-command, data-line, routines-line, commands-line, datum-line, routine-line, args-line, some-args, expr-line, in-expr, either-line, both-line, test-line, sum-line, product-line, prefix-line, in-prefix}
 use Rattle.grammar.specs.Machine.{Part, line, leave, depth, Means, Alts, over, empty, word, begins, enters, Out, bad, skip, nothing, run}
 use Rattle.grammar.specs.Table.{Row, the, data-more, routines-more, commands-more, args-more, or-more, and-more, test-rest, sum-more, product-more, Meant, rules}
 
@@ -27,13 +27,13 @@ onward ws ps f = run Meant rules ws ps f
 -- a word that does not begin a line, and the end: the line is read as nothing, or refused
 pub record Unbegun (l : Row) (ps : List (Part Row)) (f : Means Meant (line l ∷ ps) → Command) : Type 0 where
   pub at-word : (w : Word) (ws : List Word) → starts (rules l) (w .kind) ≡ false
-    → onward (w ∷ ws) (line l ∷ ps) f ≡ skip (nothing Meant (rules l)) (w ∷ ws) (λ t. onward (w ∷ ws) ps (λ a. f (t, a)))
+      → onward (w ∷ ws) (line l ∷ ps) f ≡ skip (nothing Meant (rules l)) (w ∷ ws) (λ t. onward (w ∷ ws) ps (λ a. f (t, a)))
   pub at-end : onward [] (line l ∷ ps) f ≡ skip (nothing Meant (rules l)) [] (λ t. onward [] ps (λ a. f (t, a)))
 
 -- a line that a word begins inside more than 64 lines is refused
 abbrev pub Begun-too-deep : Type 0
 Begun-too-deep = (l : Row) (w : Word) (ws : List Word) (ps : List (Part Row)) (f : Means Meant (line l ∷ ps) → Command)
-  → starts (rules l) (w .kind) ≡ true → 64 < depth ps → onward (w ∷ ws) (line l ∷ ps) f ≡ bad NestTooDeep (w ∷ ws)
+    → starts (rules l) (w .kind) ≡ true → 64 < depth ps → onward (w ∷ ws) (line l ∷ ps) f ≡ bad NestTooDeep (w ∷ ws)
 
 -- a line that counts is what stands inside it, and then it is left
 pub record Counts (ws : List Word) (ps : List (Part Row)) : Type 0 where
@@ -45,7 +45,7 @@ pub record Counts (ws : List Word) (ps : List (Part Row)) : Type 0 where
 -- the line l is its first operand m and what follows that, r
 abbrev pub Operand : (l m r : Row) → (Word → Meant m → Meant r → Meant l) → Type 0
 Operand l m r b = (w : Word) (ws : List Word) (ps : List (Part Row)) (f : Means Meant (line l ∷ ps) → Command)
-  → onward (w ∷ ws) (line l ∷ ps) f ≡ onward (w ∷ ws) (line m ∷ line r ∷ ps) (λ a. f (b w (a .0) (a .1 .0), a .1 .1))
+    → onward (w ∷ ws) (line l ∷ ps) f ≡ onward (w ∷ ws) (line m ∷ line r ∷ ps) (λ a. f (b w (a .0) (a .1 .0), a .1 .1))
 
 pub record Operands : Type 0 where
   pub either : Operand (the either-line) (the both-line) or-more (λ w t f. f (w .place) t)
@@ -58,7 +58,7 @@ pub record Operands : Type 0 where
 -- the list l, where a word begins its first m, is that and what goes on with it, r
 abbrev pub Listed : (l m r : Row) → (Meant m → Meant r → Meant l) → Type 0
 Listed l m r b = (w : Word) (ws : List Word) (ps : List (Part Row)) (f : Means Meant (line l ∷ ps) → Command) → starts (rules m) (w .kind) ≡ true
-  → onward (w ∷ ws) (line l ∷ ps) f ≡ onward (w ∷ ws) (line m ∷ line r ∷ ps) (λ a. f (b (a .0) (a .1 .0), a .1 .1))
+    → onward (w ∷ ws) (line l ∷ ps) f ≡ onward (w ∷ ws) (line m ∷ line r ∷ ps) (λ a. f (b (a .0) (a .1 .0), a .1 .1))
 
 pub record Lists : Type 0 where
   pub data-first : Listed (the data-line) (the datum-line) data-more (λ d f. f (d no-data))
@@ -68,7 +68,7 @@ pub record Lists : Type 0 where
   pub commands-first : Listed (the commands-line) (the command-line) commands-more (λ c f. f (then no-commands c))
   pub commands-next : Listed commands-more (the command-line) commands-more (λ c f cs. f (then cs c))
   pub args-some : (w : Word) (ws : List Word) (ps : List (Part Row)) (f : Means Meant (line (the args-line) ∷ ps) → Command) → starts (rules (the some-args)) (w .kind) ≡ true
-    → onward (w ∷ ws) (line (the args-line) ∷ ps) f ≡ onward (w ∷ ws) (line (the some-args) ∷ ps) f
+      → onward (w ∷ ws) (line (the args-line) ∷ ps) f ≡ onward (w ∷ ws) (line (the some-args) ∷ ps) f
 
 pub record Lines-hold : Type 0 where
   pub unbegun : (l : Row) (ps : List (Part Row)) (f : Means Meant (line l ∷ ps) → Command) → Unbegun l ps f

@@ -31,19 +31,19 @@ Rules l = Alts Meant l
 
 abbrev pub atoms : Rules (the atom-line)
 atoms =
-  word Number [] (λ w a. number (w .place) (value w))
-  (word True [] (λ w a. truth (w .place) true)
-  (word False [] (λ w a. truth (w .place) false)
-  (word Name (line atom-rest ∷ []) (λ w a. a .0 w)
-  (word Open (line (the expr-line) ∷ tok Close ∷ []) (λ w a. a .0)
-  over))))
+    word Number [] (λ w a. number (w .place) (value w))
+    (word True [] (λ w a. truth (w .place) true)
+    (word False [] (λ w a. truth (w .place) false)
+    (word Name (line atom-rest ∷ []) (λ w a. a .0 w)
+    (word Open (line (the expr-line) ∷ tok Close ∷ []) (λ w a. a .0)
+    over))))
 
 abbrev pub in-prefixes : Rules (the in-prefix)
 in-prefixes =
-  word Minus (line (the prefix-line) ∷ []) (λ w a. signed (w .place) minus (a .0))
-  (word Not (line (the prefix-line) ∷ []) (λ w a. signed (w .place) negate (a .0))
-  (begins atoms [] (λ w t a. t)
-  over))
+    word Minus (line (the prefix-line) ∷ []) (λ w a. signed (w .place) minus (a .0))
+    (word Not (line (the prefix-line) ∷ []) (λ w a. signed (w .place) negate (a .0))
+    (begins atoms [] (λ w t a. t)
+    over))
 
 abbrev pub prefixes : Rules (the prefix-line)
 prefixes = enters in-prefixes (λ t. t)
@@ -65,12 +65,12 @@ eithers = begins boths (line or-more ∷ []) (λ w t a. a .0 (w .place) t) over
 
 abbrev pub in-exprs : Rules (the in-expr)
 in-exprs =
-  word If (line (the expr-line) ∷ tok Then ∷ line (the expr-line) ∷ tok Else ∷ line (the expr-line) ∷ [])
+    word If (line (the expr-line) ∷ tok Then ∷ line (the expr-line) ∷ tok Else ∷ line (the expr-line) ∷ [])
     (λ w a. choose (w .place) (a .0) (a .1 .1 .0) (a .1 .1 .1 .1 .0))
-  (word Let (tok Name ∷ tok Equal ∷ line (the expr-line) ∷ tok In ∷ line (the expr-line) ∷ [])
+    (word Let (tok Name ∷ tok Equal ∷ line (the expr-line) ∷ tok In ∷ line (the expr-line) ∷ [])
     (λ w a. local (w .place) (a .0 .place) (named (a .0)) (a .1 .1 .0) (a .1 .1 .1 .1 .0))
-  (begins eithers [] (λ w t a. t)
-  over))
+    (begins eithers [] (λ w t a. t)
+    over))
 
 abbrev pub exprs : Rules (the expr-line)
 exprs = enters in-exprs (λ t. t)
@@ -80,39 +80,39 @@ arglists = begins exprs (line args-more ∷ []) (λ w t a. a .0 (arg no-args t))
 
 abbrev pub blocks : Rules (the block-line)
 blocks = word OpenBrace (line (the data-line) ∷ line (the routines-line) ∷ line (the commands-line) ∷ tok CloseBrace ∷ [])
-  (λ w a. block (w .place) (a .0) (a .1 .0) (a .1 .1 .0)) over
+    (λ w a. block (w .place) (a .0) (a .1 .0) (a .1 .1 .0)) over
 
 abbrev pub in-commands : Rules (the in-command)
 in-commands =
-  word Name (tok Becomes ∷ line (the expr-line) ∷ tok Semicolon ∷ [])
+    word Name (tok Becomes ∷ line (the expr-line) ∷ tok Semicolon ∷ [])
     (λ w a. assign (w .place) (named w) (a .1 .0))
-  (word Call (tok Name ∷ tok Open ∷ line (the args-line) ∷ tok Close ∷ tok Semicolon ∷ [])
+    (word Call (tok Name ∷ tok Open ∷ line (the args-line) ∷ tok Close ∷ tok Semicolon ∷ [])
     (λ w a. perform (w .place) (a .0 .place) (named (a .0)) (a .1 .1 .0))
-  (word If (line (the expr-line) ∷ tok Then ∷ line (the command-line) ∷ tok Else ∷ line (the command-line) ∷ [])
+    (word If (line (the expr-line) ∷ tok Then ∷ line (the command-line) ∷ tok Else ∷ line (the command-line) ∷ [])
     (λ w a. fork (w .place) (a .0) (a .1 .1 .0) (a .1 .1 .1 .1 .0))
-  (word While (line (the expr-line) ∷ tok Do ∷ line (the command-line) ∷ [])
+    (word While (line (the expr-line) ∷ tok Do ∷ line (the command-line) ∷ [])
     (λ w a. while (w .place) (a .0) (a .1 .1 .0))
-  (begins blocks [] (λ w t a. t)
-  over))))
+    (begins blocks [] (λ w t a. t)
+    over))))
 
 abbrev pub commands : Rules (the command-line)
 commands = enters in-commands (λ t. t)
 
 abbrev pub datums : Rules (the datum-line)
 datums =
-  word Const (tok Name ∷ tok Equal ∷ line (the expr-line) ∷ tok Semicolon ∷ [])
+    word Const (tok Name ∷ tok Equal ∷ line (the expr-line) ∷ tok Semicolon ∷ [])
     (λ w a ds. const ds (w .place) (a .0 .place) (named (a .0)) (a .1 .1 .0))
-  (word Var (tok Name ∷ tok Equal ∷ line (the expr-line) ∷ tok Semicolon ∷ [])
+    (word Var (tok Name ∷ tok Equal ∷ line (the expr-line) ∷ tok Semicolon ∷ [])
     (λ w a ds. var ds (w .place) (a .0 .place) (named (a .0)) (a .1 .1 .0))
-  over)
+    over)
 
 abbrev pub routines : Rules (the routine-line)
 routines =
-  word Fun (tok Name ∷ tok Open ∷ line (the names-line) ∷ tok Close ∷ tok Equal ∷ line (the expr-line) ∷ tok Semicolon ∷ [])
+    word Fun (tok Name ∷ tok Open ∷ line (the names-line) ∷ tok Close ∷ tok Equal ∷ line (the expr-line) ∷ tok Semicolon ∷ [])
     (λ w a rs. fun rs (w .place) (a .0 .place) (named (a .0)) (a .1 .1 .0) (a .1 .1 .1 .1 .1 .0))
-  (word Proc (tok Name ∷ tok Open ∷ line (the names-line) ∷ tok Close ∷ line (the command-line) ∷ [])
+    (word Proc (tok Name ∷ tok Open ∷ line (the names-line) ∷ tok Close ∷ line (the command-line) ∷ [])
     (λ w a rs. proc rs (w .place) (a .0 .place) (named (a .0)) (a .1 .1 .0) (a .1 .1 .1 .1 .0))
-  over)
+    over)
 
 abbrev pub rules : (l : Row) → Rules l
 rules (the command-line) = commands
@@ -144,13 +144,13 @@ rules args-more = word Comma (line (the expr-line) ∷ line args-more ∷ []) (�
 rules or-more = word Or (line (the both-line) ∷ line or-more ∷ []) (λ w a p t. a .1 .0 p (either p t (a .0))) (empty (λ p t. t))
 rules and-more = word And (line (the test-line) ∷ line and-more ∷ []) (λ w a p t. a .1 .0 p (both p t (a .0))) (empty (λ p t. t))
 rules test-rest =
-  word Equal (line (the sum-line) ∷ []) (λ w a p t. binary p equal t (a .0))
-  (word Less (line (the sum-line) ∷ []) (λ w a p t. binary p less t (a .0))
-  (empty (λ p t. t)))
+    word Equal (line (the sum-line) ∷ []) (λ w a p t. binary p equal t (a .0))
+    (word Less (line (the sum-line) ∷ []) (λ w a p t. binary p less t (a .0))
+    (empty (λ p t. t)))
 rules sum-more =
-  word Plus (line (the product-line) ∷ line sum-more ∷ []) (λ w a p t. a .1 .0 p (binary p add t (a .0)))
-  (word Minus (line (the product-line) ∷ line sum-more ∷ []) (λ w a p t. a .1 .0 p (binary p sub t (a .0)))
-  (empty (λ p t. t)))
+    word Plus (line (the product-line) ∷ line sum-more ∷ []) (λ w a p t. a .1 .0 p (binary p add t (a .0)))
+    (word Minus (line (the product-line) ∷ line sum-more ∷ []) (λ w a p t. a .1 .0 p (binary p sub t (a .0)))
+    (empty (λ p t. t)))
 rules product-more = word Times (line (the prefix-line) ∷ line product-more ∷ []) (λ w a p t. a .1 .0 p (binary p mul t (a .0))) (empty (λ p t. t))
 rules atom-rest = word Open (line (the args-line) ∷ tok Close ∷ []) (λ w a x. apply (x .place) (named x) (a .0)) (empty (λ x. read (x .place) (named x)))
 
