@@ -1,6 +1,7 @@
 -- Reading decides the grammar.
 use mathlib.Core.Path.{_≡_, refl, sym, ap, subst, _∙_}
 use mathlib.Core.Bool.{Bool, true, false}
+use mathlib.Core.Logic.{_⊎_, inl, inr}
 use mathlib.Core.List.{List, [], _∷_, _++_}
 use Prim.Native.Nat.{ℕ, suc, _+_, _≤_}
 use native.Mathlib.Omega.{arith}
@@ -197,10 +198,19 @@ eight ws q x = on (answered ws)
     on (a-seven p e) = absurd (apart ws p q (leaves ws p e) x)
     on (an-eight p e) = e ∙ ap (bad NestTooDeep) (same-eight ws p q (too-deep ws p e) x)
 
+always : (ws : List Word) → ((t : Command) × Text 0 ws t) ⊎ (((q : List Word) × Leaves ws q) ⊎ ((q : List Word) × TooDeep ws q))
+always ws = on (answered ws)
+  where
+    on : Answered ws → ((t : Command) × Text 0 ws t) ⊎ (((q : List Word) × Leaves ws q) ⊎ ((q : List Word) × TooDeep ws q))
+    on (a-tree t e) = inl (t, accepted ws t e)
+    on (a-seven q e) = inr (inl (q, leaves ws q e))
+    on (an-eight q e) = inr (inr (q, too-deep ws q e))
+
 pub decides : (ws : List Word) → Decides ws
 decides ws = record {
   accepts = λ t. (λ x. same-reading ws ∙ accepts ws t x, λ e. accepted ws t (sym (same-reading ws) ∙ e));
   seven = λ q. (λ x. same-reading ws ∙ seven ws q x, λ e. leaves ws q (sym (same-reading ws) ∙ e));
   eight = λ q. (λ x. same-reading ws ∙ eight ws q x, λ e. too-deep ws q (sym (same-reading ws) ∙ e));
+  always = always ws;
   one-tree = one-tree ws;
 }
