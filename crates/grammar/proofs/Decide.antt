@@ -1,5 +1,5 @@
 -- Whether one word ahead decides, by computing over a table.
-use mathlib.Core.Path.{_≡_, refl, subst}
+use mathlib.Core.Path.{sym, ap, _∙_, _≡_, refl, subst}
 use mathlib.Core.Bool.{Bool, true, false, cond}
 use mathlib.Core.List.{List, [], _∷_}
 use mathlib.Core.Option.{Option, some, none}
@@ -56,6 +56,10 @@ at-code Plus = (refl, omega arith)
 at-code Minus = (refl, omega arith)
 at-code Times = (refl, omega arith)
 at-code Comma = (refl, omega arith)
+
+-- kinds are told apart by their numbers
+pub told : (j k : Kind) → sameKind j k ≡ true → k ≡ j
+told j k e = sym (at-code k .0) ∙ ap (nth kinds) (sym (eqb-true (code j) (code k) e)) ∙ at-code j .0
 
 abbrev _&&_ : Bool → Bool → Bool
 _&&_ a b = cond a b false

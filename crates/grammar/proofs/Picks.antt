@@ -1,19 +1,22 @@
 -- What a word picks, by whether it begins one of the alternatives.
 use mathlib.Core.Path.{_≡_, refl, sym, ap, _∙_}
 use mathlib.Core.Bool.{Bool, true, false, cond}
+use mathlib.Core.Logic.{_↔_}
 use mathlib.Core.List.{List, [], _∷_, _++_}
 use Prim.Native.Nat.{_≤_, _<_}
 use native.Mathlib.Omega.{arith}
 use lib.Dec.{leb}
-use borrow.Author.Tests.{clash, lt-leb}
+use borrow.Author.Tests.{clash, lt-leb, eq-eqb}
+use Rattle.lang.specs.declared.word.Kind.{Kind}
 use Rattle.lang.specs.declared.refusal.Refusal.the-variants.{Unexpected, NestTooDeep}
-use Rattle.lang.specs.Kinds.{sameKind}
+use Rattle.lang.specs.Kinds.{code, sameKind}
 use Rattle.meaning.specs.Tree.{Command, no-args, no-data, no-routines, no-commands, then}
-use Rattle.grammar.specs.Words.{Word}
+use Rattle.grammar.specs.Words.{Word, Is}
 use Rattle.grammar.specs.Grammar.{command-line, datum-line, routine-line, some-args}
 use Rattle.grammar.specs.Machine.{Part, tok, line, leave, depth, Means, Alts, over, empty, word, begins, enters, Out, bad, skip, front, rear, nothing, pick}
 use Rattle.grammar.specs.Table.{Row, the, data-more, routines-more, commands-more, Meant, rules}
-use Rattle.grammar.specs.Lines.{starts, onward, Unbegun, Begun-too-deep, Counts, Operands, Lists, Lines-hold}
+use Rattle.grammar.specs.Lines.{starts, onward, after, Has-to-come, Unbegun, Begun-too-deep, Counts, Operands, Lists, Lines-hold}
+use Rattle.grammar.proofs.Decide.{told}
 
 neither-left : (a b : Bool) → cond a true b ≡ false → a ≡ false
 neither-left true b e = absurd (clash (sym e))
@@ -82,19 +85,25 @@ module _ (w : Word) (go : (ps : List (Part Row)) → (Means Meant ps → Command
         (λ h k. picks-none inner (qs ++ ps) (λ t a. f (b w t (front Meant qs ps a)) (rear Meant qs ps a)) (pick Meant w go more ps f s) h ∙ picks-deep more ps f s k d)
     picks-deep (enters inner b) ps f s e d = picks-deep inner (leave ∷ ps) (λ t a. f (b t) a) s e (omega (arith, d))
 
--- the machine goes on after the word w
-abbrev on-from : (w : Word) (ws : List Word) (ps : List (Part Row)) → (Means Meant ps → Command) → Out Command
-on-from w ws ps f = cond (leb (depth ps) 64) (onward ws ps f) (bad NestTooDeep (w ∷ ws))
+kind-is : (k : Kind) (w : Word) → Is k w ↔ (w .kind ≡ k)
+kind-is k w = (λ e. told k (w .kind) e, λ e. eq-eqb _ _ (ap code (sym e)))
+
+has-to-come : (j : Kind) (ps : List (Part Row)) (f : Means Meant (tok j ∷ ps) → Command) → Has-to-come j ps f
+has-to-come j ps f = record {
+  comes = λ w ws e. ap (λ c. cond c (after w ws ps (λ a. f (w, a))) (bad Unexpected (w ∷ ws))) (kind-is j w .1 e);
+  other = λ w ws e. ap (λ c. cond c (after w ws ps (λ a. f (w, a))) (bad Unexpected (w ∷ ws))) e;
+  ended = refl;
+}
 
 unbegun : (l : Row) (ps : List (Part Row)) (f : Means Meant (line l ∷ ps) → Command) → Unbegun l ps f
 unbegun l ps f = record {
-  at-word = λ w ws e. picks-none w (on-from w ws) (rules l) ps (λ t a. f (t, a)) (skip (nothing Meant (rules l)) (w ∷ ws) (λ t. onward (w ∷ ws) ps (λ a. f (t, a)))) e;
+  at-word = λ w ws e. picks-none w (after w ws) (rules l) ps (λ t a. f (t, a)) (skip (nothing Meant (rules l)) (w ∷ ws) (λ t. onward (w ∷ ws) ps (λ a. f (t, a)))) e;
   at-end = refl;
 }
 
 too-deep : Begun-too-deep
 too-deep l w ws ps f e d =
-    picks-deep w (on-from w ws) (bad NestTooDeep (w ∷ ws)) (λ qs g h. ap (λ c. cond c (onward ws qs g) (bad NestTooDeep (w ∷ ws))) (lt-leb (depth qs) 64 h))
+    picks-deep w (after w ws) (bad NestTooDeep (w ∷ ws)) (λ qs g h. ap (λ c. cond c (onward ws qs g) (bad NestTooDeep (w ∷ ws))) (lt-leb (depth qs) 64 h))
     (rules l) ps (λ t a. f (t, a)) (skip (nothing Meant (rules l)) (w ∷ ws) (λ t. onward (w ∷ ws) ps (λ a. f (t, a)))) e d
 
 counts : (ws : List Word) (ps : List (Part Row)) → Counts ws ps
@@ -113,14 +122,14 @@ operands = record {
 
 lists : Lists
 lists = record {
-  data-first = λ w ws ps f e. picks-one w (on-from w ws) (rules (the datum-line)) (line data-more ∷ ps) (λ t a. f (a .0 (t no-data), a .1)) (onward (w ∷ ws) ps (λ a. f (no-data, a))) (bad Unexpected (w ∷ ws)) e;
-  data-next = λ w ws ps f e. picks-one w (on-from w ws) (rules (the datum-line)) (line data-more ∷ ps) (λ t a. f ((λ ds. a .0 (t ds)), a .1)) (onward (w ∷ ws) ps (λ a. f ((λ ds. ds), a))) (bad Unexpected (w ∷ ws)) e;
-  routines-first = λ w ws ps f e. picks-one w (on-from w ws) (rules (the routine-line)) (line routines-more ∷ ps) (λ t a. f (a .0 (t no-routines), a .1)) (onward (w ∷ ws) ps (λ a. f (no-routines, a))) (bad Unexpected (w ∷ ws)) e;
-  routines-next = λ w ws ps f e. picks-one w (on-from w ws) (rules (the routine-line)) (line routines-more ∷ ps) (λ t a. f ((λ rs. a .0 (t rs)), a .1)) (onward (w ∷ ws) ps (λ a. f ((λ rs. rs), a))) (bad Unexpected (w ∷ ws)) e;
-  commands-first = λ w ws ps f e. picks-one w (on-from w ws) (rules (the command-line)) (line commands-more ∷ ps) (λ t a. f (a .0 (then no-commands t), a .1)) (onward (w ∷ ws) ps (λ a. f (no-commands, a))) (bad Unexpected (w ∷ ws)) e;
-  commands-next = λ w ws ps f e. picks-one w (on-from w ws) (rules (the command-line)) (line commands-more ∷ ps) (λ t a. f ((λ cs. a .0 (then cs t)), a .1)) (onward (w ∷ ws) ps (λ a. f ((λ cs. cs), a))) (bad Unexpected (w ∷ ws)) e;
-  args-some = λ w ws ps f e. picks-one w (on-from w ws) (rules (the some-args)) ps (λ t a. f (t, a)) (onward (w ∷ ws) ps (λ a. f (no-args, a))) (bad Unexpected (w ∷ ws)) e;
+  data-first = λ w ws ps f e. picks-one w (after w ws) (rules (the datum-line)) (line data-more ∷ ps) (λ t a. f (a .0 (t no-data), a .1)) (onward (w ∷ ws) ps (λ a. f (no-data, a))) (bad Unexpected (w ∷ ws)) e;
+  data-next = λ w ws ps f e. picks-one w (after w ws) (rules (the datum-line)) (line data-more ∷ ps) (λ t a. f ((λ ds. a .0 (t ds)), a .1)) (onward (w ∷ ws) ps (λ a. f ((λ ds. ds), a))) (bad Unexpected (w ∷ ws)) e;
+  routines-first = λ w ws ps f e. picks-one w (after w ws) (rules (the routine-line)) (line routines-more ∷ ps) (λ t a. f (a .0 (t no-routines), a .1)) (onward (w ∷ ws) ps (λ a. f (no-routines, a))) (bad Unexpected (w ∷ ws)) e;
+  routines-next = λ w ws ps f e. picks-one w (after w ws) (rules (the routine-line)) (line routines-more ∷ ps) (λ t a. f ((λ rs. a .0 (t rs)), a .1)) (onward (w ∷ ws) ps (λ a. f ((λ rs. rs), a))) (bad Unexpected (w ∷ ws)) e;
+  commands-first = λ w ws ps f e. picks-one w (after w ws) (rules (the command-line)) (line commands-more ∷ ps) (λ t a. f (a .0 (then no-commands t), a .1)) (onward (w ∷ ws) ps (λ a. f (no-commands, a))) (bad Unexpected (w ∷ ws)) e;
+  commands-next = λ w ws ps f e. picks-one w (after w ws) (rules (the command-line)) (line commands-more ∷ ps) (λ t a. f ((λ cs. a .0 (then cs t)), a .1)) (onward (w ∷ ws) ps (λ a. f ((λ cs. cs), a))) (bad Unexpected (w ∷ ws)) e;
+  args-some = λ w ws ps f e. picks-one w (after w ws) (rules (the some-args)) ps (λ t a. f (t, a)) (onward (w ∷ ws) ps (λ a. f (no-args, a))) (bad Unexpected (w ∷ ws)) e;
 }
 
 pub lines-hold : Lines-hold
-lines-hold = record { unbegun = unbegun; too-deep = too-deep; counts = counts; operands = operands; lists = lists }
+lines-hold = record { kind-is = kind-is; has-to-come = has-to-come; unbegun = unbegun; too-deep = too-deep; counts = counts; operands = operands; lists = lists }

@@ -2,14 +2,16 @@
 use Prim.Native.Nat.{_<_}
 use mathlib.Core.Path.{_≡_}
 use mathlib.Core.Bool.{Bool, true, false, cond}
+use mathlib.Core.Logic.{_↔_}
+use lib.Dec.{leb}
 use mathlib.Core.List.{List, [], _∷_}
 use Rattle.lang.specs.declared.word.Kind.{Kind}
-use Rattle.lang.specs.declared.refusal.Refusal.the-variants.{NestTooDeep}
+use Rattle.lang.specs.declared.refusal.Refusal.the-variants.{Unexpected, NestTooDeep}
 use Rattle.lang.specs.Kinds.{sameKind}
 use Rattle.meaning.specs.Tree.{no-args, arg, no-data, no-routines, Command, no-commands, then}
-use Rattle.grammar.specs.Words.{Word}
+use Rattle.grammar.specs.Words.{Word, Is}
 use Rattle.grammar.specs.Grammar.{command-line, in-command, data-line, routines-line, commands-line, datum-line, routine-line, args-line, some-args, expr-line, in-expr, either-line, both-line, test-line, sum-line, product-line, prefix-line, in-prefix}
-use Rattle.grammar.specs.Machine.{Part, line, leave, depth, Means, Alts, over, empty, word, begins, enters, Out, bad, skip, nothing, run}
+use Rattle.grammar.specs.Machine.{Part, tok, line, leave, depth, Means, Alts, over, empty, word, begins, enters, Out, bad, skip, nothing, run}
 use Rattle.grammar.specs.Table.{Row, the, data-more, routines-more, commands-more, args-more, or-more, and-more, test-rest, sum-more, product-more, Meant, rules}
 
 -- whether a word of a kind begins one of some alternatives
@@ -23,6 +25,16 @@ starts (enters inner b) k = starts inner k
 -- the machine on the words ws with the parts ps to come
 abbrev pub onward : (ws : List Word) (ps : List (Part Row)) → (Means Meant ps → Command) → Out Command
 onward ws ps f = run Meant rules ws ps f
+
+-- the machine after the word w
+abbrev pub after : (w : Word) (ws : List Word) (ps : List (Part Row)) → (Means Meant ps → Command) → Out Command
+after w ws ps f = cond (leb (depth ps) 64) (onward ws ps f) (bad NestTooDeep (w ∷ ws))
+
+-- a word that has to come is there, or another is, or there is none
+pub record Has-to-come (j : Kind) (ps : List (Part Row)) (f : Means Meant (tok j ∷ ps) → Command) : Type 0 where
+  pub comes : (w : Word) (ws : List Word) → w .kind ≡ j → onward (w ∷ ws) (tok j ∷ ps) f ≡ after w ws ps (λ a. f (w, a))
+  pub other : (w : Word) (ws : List Word) → sameKind j (w .kind) ≡ false → onward (w ∷ ws) (tok j ∷ ps) f ≡ bad Unexpected (w ∷ ws)
+  pub ended : onward [] (tok j ∷ ps) f ≡ bad Unexpected []
 
 -- a word that does not begin a line, and the end: the line is read as nothing, or refused
 pub record Unbegun (l : Row) (ps : List (Part Row)) (f : Means Meant (line l ∷ ps) → Command) : Type 0 where
@@ -71,6 +83,8 @@ pub record Lists : Type 0 where
       → onward (w ∷ ws) (line (the args-line) ∷ ps) f ≡ onward (w ∷ ws) (line (the some-args) ∷ ps) f
 
 pub record Lines-hold : Type 0 where
+  pub kind-is : (k : Kind) (w : Word) → Is k w ↔ (w .kind ≡ k)
+  pub has-to-come : (j : Kind) (ps : List (Part Row)) (f : Means Meant (tok j ∷ ps) → Command) → Has-to-come j ps f
   pub unbegun : (l : Row) (ps : List (Part Row)) (f : Means Meant (line l ∷ ps) → Command) → Unbegun l ps f
   pub too-deep : Begun-too-deep
   pub counts : (ws : List Word) (ps : List (Part Row)) → Counts ws ps
