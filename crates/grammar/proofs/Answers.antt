@@ -1,8 +1,9 @@
 -- Reading decides the grammar.
 use mathlib.Core.Path.{_≡_, refl, sym, ap, subst, _∙_}
-use mathlib.Core.Bool.{Bool, true, false, cond}
+use mathlib.Core.Bool.{Bool, true, false}
+use mathlib.Core.Logic.{_⊎_, inl, inr}
 use mathlib.Core.List.{List, [], _∷_, _++_}
-use Prim.Native.Nat.{ℕ, zero, suc, _+_, _≤_, _<_}
+use Prim.Native.Nat.{ℕ, suc, _+_, _≤_}
 use native.Mathlib.Omega.{arith}
 use lib.ListN.{length}
 use Rattle.grammar.specs.Words.{Word}
@@ -10,10 +11,12 @@ use Rattle.lang.specs.declared.refusal.Refusal.the-variants.{Unexpected, NestTo
 use Rattle.meaning.specs.Tree.{Command}
 use Rattle.grammar.specs.Grammar.{command-line, Text}
 use Rattle.grammar.specs.Refusals.{NoMore, Leaves, TooDeep}
-use Rattle.grammar.specs.Machine.{Part, line, Means, Out, fine, bad, run}
+use Rattle.grammar.specs.Machine.{Part, line, Means, Out, fine, bad}
+use Rattle.grammar.proofs.Stepper.{run}
 use Rattle.grammar.specs.Table.{Row, the, Meant, rules, reading}
 use Rattle.grammar.specs.Answer.{Decides}
-use Rattle.grammar.proofs.Derive.{Goal, parts, alts, D, nil, a-line}
+use Rattle.grammar.proofs.Alongside.{as-stepped}
+use Rattle.grammar.proofs.Derive.{parts, D, nil, a-line}
 use Rattle.grammar.proofs.Runs as r
 use Rattle.grammar.proofs.Decide.{apart-holds}
 use Rattle.grammar.proofs.Instance.{ll, follow, keeps, apart-tests, sample, sampled}
@@ -25,6 +28,13 @@ start = line (the command-line) ∷ []
 
 abbrev whole : Means Meant start → Command
 whole a = a .0
+
+-- the words as a rule, by the machine in steps
+abbrev stepped : List Word → Out Command
+stepped ws = run Meant rules ws start whole
+
+same-reading : (ws : List Word) → reading ws ≡ stepped ws
+same-reading ws = as-stepped Meant rules ws start whole
 
 -- a text, as the table has it
 pub to-table : {k : ℕ} {ws : List Word} {t : Command} → Text k ws t → D Meant rules k (parts 0 0 start) ws [] (t, tt)
@@ -42,16 +52,16 @@ fine-start = (λ k e. let z : _≡_ {A = Bool} false true = e in absurd (no z), 
     no : false ≡ true → ⊥
     no e = let z : _≡_ {A = ℕ} 0 1 = cc in omega arith
 
-accepted : (ws : List Word) (t : Command) → reading ws ≡ fine t → Text 0 ws t
+accepted : (ws : List Word) (t : Command) → stepped ws ≡ fine t → Text 0 ws t
 accepted ws t e = let x = r.sound Meant rules 0 ws start whole t e in subst (Text 0 ws) (x .2) (from-table (x .1))
 
-accepts : (ws : List Word) (t : Command) → Text 0 ws t → reading ws ≡ fine t
+accepts : (ws : List Word) (t : Command) → Text 0 ws t → stepped ws ≡ fine t
 accepts ws t x = r.complete Meant rules ll follow keeps (λ l. apart-holds Meant rules ll follow l (apart-tests l)) ws start whole (t, tt) fine-start (omega arith) (to-table x)
 
 one-tree : (ws : List Word) (j k : ℕ) (t u : Command) → Text j ws t → Text k ws u → t ≡ u
 one-tree ws j k t u x y = ap whole (r.unique Meant rules ll follow keeps (λ l. apart-holds Meant rules ll follow l (apart-tests l)) j k ws start (t, tt) (u, tt) fine-start (to-table x) (to-table y))
 
-leaves : (ws q : List Word) → reading ws ≡ bad Unexpected q → Leaves ws q
+leaves : (ws q : List Word) → stepped ws ≡ bad Unexpected q → Leaves ws q
 leaves ws q e =
     let x = r.leaves Meant rules ll follow keeps (λ l. apart-holds Meant rules ll follow l (apart-tests l)) sample sampled ws q start whole fine-start e in
     record { before = x .before; split = x .parted; viable = (x .viable .0, x .viable .1 .0 .0, from-table (x .viable .1 .1)); no-more = lasts (x .before) q (x .no-more) }
@@ -60,7 +70,7 @@ leaves ws q e =
     lasts u [] n = λ t y. n _ ((t, tt), to-table y)
     lasts u (w ∷ ws) n = λ vs t y. n _ vs ((t, tt), to-table y)
 
-too-deep : (ws q : List Word) → reading ws ≡ bad NestTooDeep q → TooDeep ws q
+too-deep : (ws q : List Word) → stepped ws ≡ bad NestTooDeep q → TooDeep ws q
 too-deep ws q e =
     let x = r.deep Meant rules ll follow keeps (λ l. apart-holds Meant rules ll follow l (apart-tests l)) sample sampled ws q start whole fine-start (omega arith) e in
     record {
@@ -165,33 +175,42 @@ same-eight ws p q x y = on (part (x .before) p (y .before) q (x .split ∙ sym (
 
 -- the machine answers 7, 8 or a tree
 data Answered (ws : List Word) : Type 0 where
-  a-tree : (t : Command) → reading ws ≡ fine t → Answered ws
-  a-seven : (q : List Word) → reading ws ≡ bad Unexpected q → Answered ws
-  an-eight : (q : List Word) → reading ws ≡ bad NestTooDeep q → Answered ws
+  a-tree : (t : Command) → stepped ws ≡ fine t → Answered ws
+  a-seven : (q : List Word) → stepped ws ≡ bad Unexpected q → Answered ws
+  an-eight : (q : List Word) → stepped ws ≡ bad NestTooDeep q → Answered ws
 
 answered : (ws : List Word) → Answered ws
 answered ws = r.answers Meant rules (Answered ws) ws start whole (λ t e. a-tree t e) (λ q e. a-seven q e) (λ q e. an-eight q e)
 
-seven : (ws q : List Word) → Leaves ws q → reading ws ≡ bad Unexpected q
+seven : (ws q : List Word) → Leaves ws q → stepped ws ≡ bad Unexpected q
 seven ws q l = on (answered ws)
   where
-    on : Answered ws → reading ws ≡ bad Unexpected q
+    on : Answered ws → stepped ws ≡ bad Unexpected q
     on (a-tree t e) = absurd (no-seven ws q t l (accepted ws t e))
     on (a-seven p e) = e ∙ ap (bad Unexpected) (same-seven ws p q (leaves ws p e) l)
     on (an-eight p e) = absurd (apart ws q p l (too-deep ws p e))
 
-eight : (ws q : List Word) → TooDeep ws q → reading ws ≡ bad NestTooDeep q
+eight : (ws q : List Word) → TooDeep ws q → stepped ws ≡ bad NestTooDeep q
 eight ws q x = on (answered ws)
   where
-    on : Answered ws → reading ws ≡ bad NestTooDeep q
+    on : Answered ws → stepped ws ≡ bad NestTooDeep q
     on (a-tree t e) = absurd (no-eight ws q t x (accepted ws t e))
     on (a-seven p e) = absurd (apart ws p q (leaves ws p e) x)
     on (an-eight p e) = e ∙ ap (bad NestTooDeep) (same-eight ws p q (too-deep ws p e) x)
 
+always : (ws : List Word) → ((t : Command) × Text 0 ws t) ⊎ (((q : List Word) × Leaves ws q) ⊎ ((q : List Word) × TooDeep ws q))
+always ws = on (answered ws)
+  where
+    on : Answered ws → ((t : Command) × Text 0 ws t) ⊎ (((q : List Word) × Leaves ws q) ⊎ ((q : List Word) × TooDeep ws q))
+    on (a-tree t e) = inl (t, accepted ws t e)
+    on (a-seven q e) = inr (inl (q, leaves ws q e))
+    on (an-eight q e) = inr (inr (q, too-deep ws q e))
+
 pub decides : (ws : List Word) → Decides ws
 decides ws = record {
-  accepts = λ t. (accepts ws t, accepted ws t);
-  seven = λ q. (seven ws q, leaves ws q);
-  eight = λ q. (eight ws q, too-deep ws q);
+  accepts = λ t. (λ x. same-reading ws ∙ accepts ws t x, λ e. accepted ws t (sym (same-reading ws) ∙ e));
+  seven = λ q. (λ x. same-reading ws ∙ seven ws q x, λ e. leaves ws q (sym (same-reading ws) ∙ e));
+  eight = λ q. (λ x. same-reading ws ∙ eight ws q x, λ e. too-deep ws q (sym (same-reading ws) ∙ e));
+  always = always ws;
   one-tree = one-tree ws;
 }

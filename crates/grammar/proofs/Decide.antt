@@ -1,21 +1,17 @@
 -- Whether one word ahead decides, by computing over a table.
-use mathlib.Core.Path.{_≡_, refl, sym, ap, subst, _∙_}
+use mathlib.Core.Path.{sym, ap, _∙_, _≡_, refl, subst}
 use mathlib.Core.Bool.{Bool, true, false, cond}
-use mathlib.Core.List.{List, [], _∷_, _++_}
+use mathlib.Core.List.{List, [], _∷_}
 use mathlib.Core.Option.{Option, some, none}
-use Prim.Native.Nat.{ℕ, zero, suc, _+_, _≤_, _<_}
+use Prim.Native.Nat.{ℕ, zero, suc, _<_}
 use native.Mathlib.Omega.{arith}
 use lib.ListN.{length}
-use lib.Dec.{leb}
-use borrow.Author.Tests.{clash, leb-true, leb-false}
+use borrow.Author.Tests.{clash, eqb-true}
 use Rattle.lang.specs.declared.word.Kind.{Kind}
-use Rattle.lang.specs.Kinds.{sameKind}
-use Rattle.grammar.specs.Words.{Word, Is}
-use Rattle.grammar.specs.Grammar.{Within}
-use Rattle.grammar.specs.Machine.{Part, tok, line, leave, depth, Means, Alts, over, empty, word, begins, enters, Step, take, stop, pass, Out, fine, bad, both, front, rear, further, inside, at, nothing, then, shift, ending, finish, run}
+use Rattle.lang.specs.Kinds.{sameKind, code}
+use Rattle.grammar.specs.Machine.{Part, tok, line, leave, depth, Alts, over, empty, word, begins, enters, nothing}
+use Rattle.grammar.proofs.Stepper.{at}
 use lib.Dec.{eqb}
-use borrow.Author.Tests.{eqb-true}
-use Rattle.lang.specs.Kinds.{code}
 use Rattle.lang.specs.declared.word.Kind.the-variants.{Name, Number, Call, If, Then, Else, While, Do, Const, Var, Fun, Proc, Let, In, Or, And, Not, True, False, OpenBrace, CloseBrace, Open, Close, Semicolon, Comma, Equal, Less, Plus, Minus, Times, Becomes}
 use Rattle.grammar.proofs.Forth.{LL, takes, starts, Good, Keeps}
 
@@ -60,6 +56,10 @@ at-code Plus = (refl, omega arith)
 at-code Minus = (refl, omega arith)
 at-code Times = (refl, omega arith)
 at-code Comma = (refl, omega arith)
+
+-- kinds are told apart by their numbers
+pub told : (j k : Kind) → sameKind j k ≡ true → k ≡ j
+told j k e = sym (at-code k .0) ∙ ap (nth kinds) (sym (eqb-true (code j) (code k) e)) ∙ at-code j .0
 
 abbrev _&&_ : Bool → Bool → Bool
 _&&_ a b = cond a b false

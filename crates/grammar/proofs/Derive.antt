@@ -1,18 +1,12 @@
 -- What a table derives, and that the machine's steps are derivations.
-use mathlib.Core.Path.{_≡_, refl, sym, ap, subst, _∙_}
-use mathlib.Core.Bool.{Bool, true, false, cond}
+use mathlib.Core.Path.{_≡_, refl, ap}
 use mathlib.Core.List.{List, [], _∷_, _++_}
-use mathlib.Core.Option.{Option, some, none}
-use Prim.Native.Nat.{ℕ, zero, suc, _+_, _≤_, _<_}
+use Prim.Native.Nat.{ℕ, suc, _≤_}
 use native.Mathlib.Omega.{arith}
-use lib.ListN.{length}
-use lib.Dec.{leb}
-use borrow.Author.Tests.{clash, leb-true, leb-false}
 use Rattle.lang.specs.declared.word.Kind.{Kind}
-use Rattle.lang.specs.Kinds.{sameKind}
 use Rattle.grammar.specs.Words.{Word, Is}
 use Rattle.grammar.specs.Grammar.{Within}
-use Rattle.grammar.specs.Machine.{Part, tok, line, leave, depth, Means, Alts, over, empty, word, begins, enters, Step, take, stop, pass, Out, fine, bad, both, front, rear, further, inside, at, nothing, then, shift, ending, finish, run}
+use Rattle.grammar.specs.Machine.{Part, tok, line, leave, depth, Means, Alts, empty, word, begins, enters, front, rear}
 
 -- parts, from one nest to another; or one of some alternatives
 pub data Goal {L : Type 0} (V : L → Type 0) : Type 0 where

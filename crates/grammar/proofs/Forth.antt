@@ -2,18 +2,17 @@
 use mathlib.Core.Path.{_≡_, refl, sym, ap, subst, _∙_}
 use mathlib.Core.Bool.{Bool, true, false, cond}
 use mathlib.Core.List.{List, [], _∷_, _++_}
-use mathlib.Core.Option.{Option, some, none}
-use Prim.Native.Nat.{ℕ, zero, suc, _+_, _≤_, _<_}
+use mathlib.Core.Option.{some, none}
+use Prim.Native.Nat.{ℕ, suc}
 use native.Mathlib.Omega.{arith}
-use lib.ListN.{length}
-use lib.Dec.{leb}
-use borrow.Author.Tests.{clash, leb-true, leb-false}
+use borrow.Author.Tests.{clash}
 use Rattle.lang.specs.declared.word.Kind.{Kind}
 use Rattle.lang.specs.Kinds.{sameKind}
-use Rattle.grammar.specs.Words.{Word, Is}
+use Rattle.grammar.specs.Words.{Word}
 use Rattle.grammar.specs.Grammar.{Within}
-use Rattle.grammar.specs.Machine.{Part, tok, line, leave, depth, Means, Alts, over, empty, word, begins, enters, Step, take, stop, pass, Out, fine, bad, both, front, rear, further, inside, at, nothing, then, shift, ending, finish, run}
-use Rattle.grammar.proofs.Derive.{Goal, parts, alts, Meant, D, nil, a-tok, a-line, a-leave, here-empty, here-word, here-line, here-enter, later-word, later-line, join, joined, front-joined, rear-joined, nests, no-words, is-depth}
+use Rattle.grammar.specs.Machine.{Part, tok, line, leave, depth, Means, Alts, over, empty, word, begins, enters, rear, nothing}
+use Rattle.grammar.proofs.Stepper.{Step, take, stop, pass, both, further, inside, at, then, shift, ending}
+use Rattle.grammar.proofs.Derive.{Goal, parts, alts, Meant, D, nil, a-tok, a-line, a-leave, here-empty, here-word, here-line, here-enter, later-word, later-line, join, joined, front-joined, rear-joined, nests, no-words}
 
 pub data Came (A B : Type 0) : Type 0 where
   consumed : A → Came A B

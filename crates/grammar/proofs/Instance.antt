@@ -1,16 +1,17 @@
 -- The grammar's table: one word ahead decides, and every line has a sample.
 use mathlib.Core.Path.{_≡_, refl}
 use mathlib.Core.Bool.{Bool, true, false, cond}
-use mathlib.Core.List.{List, [], _∷_, _++_}
+use mathlib.Core.List.{List, [], _∷_}
 use Rattle.lang.specs.declared.word.Kind.{Kind}
-use Rattle.lang.specs.declared.word.Kind.the-variants.{Name, Number, Call, If, Then, Else, While, Do, Const, Var, Fun, Proc, Let, In, Or, And, Not, True, False, OpenBrace, CloseBrace, Open, Close, Semicolon, Comma, Equal, Less, Plus, Minus, Times, Becomes}
+use Rattle.lang.specs.declared.word.Kind.the-variants.{Name, Number, Call, If, Then, Else, While, Do, Const, Var, Fun, Proc, In, Or, And, OpenBrace, CloseBrace, Open, Close, Semicolon, Comma, Equal, Less, Plus, Minus, Times}
 use Rattle.lang.specs.Kinds.{sameKind}
 use Rattle.grammar.specs.Words.{Word}
 use Rattle.grammar.specs.Grammar.{command-line, in-command, block-line, data-line, routines-line, commands-line, datum-line, routine-line, names-line, more-names, args-line, some-args, expr-line, in-expr, either-line, both-line, test-line, sum-line, product-line, prefix-line, in-prefix, atom-line}
-use Rattle.grammar.specs.Machine.{line, run, fine}
+use Rattle.grammar.specs.Machine.{line, fine}
+use Rattle.grammar.proofs.Stepper.{run}
 use Rattle.grammar.specs.Table.{Row, the, data-more, routines-more, commands-more, args-more, or-more, and-more, test-rest, sum-more, product-more, atom-rest, Meant, rules}
-use Rattle.grammar.proofs.Forth.{LL, Keeps, takes}
-use Rattle.grammar.proofs.Decide.{ll-test, ll-holds, keeps-test, keeps-holds, apart-test, apart-holds}
+use Rattle.grammar.proofs.Forth.{LL, Keeps}
+use Rattle.grammar.proofs.Decide.{ll-test, ll-holds, keeps-test, keeps-holds, apart-test}
 
 abbrev among : List Kind → Kind → Bool
 among [] k = false

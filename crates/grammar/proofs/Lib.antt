@@ -1,3 +1,5 @@
+pub mod Stepper
+pub mod Alongside
 pub mod Derive
 pub mod Back
 pub mod Forth
@@ -8,3 +10,4 @@ pub mod Into
 pub mod Outof
 pub mod Answers
 pub mod Respell
+pub mod Picks

@@ -2,18 +2,18 @@
 use mathlib.Core.Path.{_≡_, refl, sym, ap, subst}
 use mathlib.Core.Bool.{true}
 use mathlib.Core.List.{List, [], _∷_}
-use Prim.Native.Nat.{ℕ, suc, _≤_}
+use Prim.Native.Nat.{ℕ, suc}
 use native.Mathlib.Omega.{arith}
 use lib.ListN.{length}
 use Rattle.lang.specs.declared.word.Kind.{Kind}
 use Rattle.lang.specs.Kinds.{sameKind}
 use Rattle.meaning.specs.Tree.{Command}
-use Rattle.grammar.specs.Words.{Word, Is}
+use Rattle.grammar.specs.Words.{Word}
 use Rattle.grammar.specs.Grammar.{Text}
-use Rattle.grammar.specs.Machine.{Alts, Means, line}
+use Rattle.grammar.specs.Machine.{Alts}
 use Rattle.grammar.specs.Table.{rules, Meant as Built}
 use Rattle.grammar.specs.Spelling.{kinds}
-use Rattle.grammar.proofs.Derive.{Goal, parts, alts, Meant, D, nil, a-tok, a-line, a-leave, here-empty, here-word, here-line, here-enter, later-word, later-line}
+use Rattle.grammar.proofs.Derive.{Goal, parts, Meant, D, nil, a-tok, a-line, a-leave, here-empty, here-word, here-line, here-enter, later-word, later-line}
 use Rattle.grammar.proofs.Answers.{start, to-table, from-table}
 
 data Alike : List Word → List Word → Type 0 where

@@ -7,15 +7,13 @@ use Prim.Native.Nat.{ℕ, zero, suc, _+_, _≤_, _<_}
 use native.Mathlib.Omega.{arith}
 use lib.ListN.{length}
 use lib.Dec.{leb}
-use borrow.Author.Tests.{clash, leb-true, leb-false}
+use borrow.Author.Tests.{leb-true, leb-false, eq-eqb, le-leb}
 use Rattle.lang.specs.declared.word.Kind.{Kind}
 use Rattle.lang.specs.declared.refusal.Refusal.{Refusal}
 use Rattle.lang.specs.declared.refusal.Refusal.the-variants.{Unexpected, NestTooDeep}
-use Rattle.lang.specs.Kinds.{sameKind}
-use Rattle.grammar.specs.Words.{Word, Is}
-use Rattle.grammar.specs.Grammar.{Within}
-use Rattle.grammar.specs.Machine.{Part, tok, line, leave, depth, Means, Alts, over, empty, word, begins, enters, Step, take, stop, pass, Out, fine, bad, both, front, rear, further, inside, at, nothing, then, shift, ending, finish, run}
-use borrow.Author.Tests.{eq-eqb, le-leb}
+use Rattle.grammar.specs.Words.{Word}
+use Rattle.grammar.specs.Machine.{Part, tok, line, leave, depth, Means, Alts, word, Out, fine, bad, nothing}
+use Rattle.grammar.proofs.Stepper.{Step, take, stop, pass, at, shift, ending, finish, run}
 use Rattle.grammar.proofs.Derive.{Goal, parts, alts, Meant, D, nil, a-tok, a-line, a-leave, here-empty, here-word, here-line, here-enter, later-word, later-line, is-depth}
 use Rattle.grammar.proofs.Back.{Backs, Stack, Any, back, Ended, ended}
 use Rattle.grammar.proofs.Forth.{LL, Took, takes, ends, none-of, Good, Keeps, GoodStep, good, forth}

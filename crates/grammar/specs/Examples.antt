@@ -9,7 +9,7 @@ use Rattle.lang.specs.declared.word.Kind.the-variants.{Number, Call, If, Then, 
 use Rattle.lang.specs.declared.refusal.Refusal.the-variants.{Unexpected, NestTooDeep}
 use Rattle.lang.specs.declared.name.Name.{Name}
 use Rattle.lang.specs.Names.{padded}
-use Rattle.meaning.specs.Tree.{Place, Expr, minus, negate, add, sub, mul, less, number, truth, read, signed, binary, both, choose, local, apply, no-args, arg, no-data, const, var, block, assign, perform, fork, while, no-commands, then, no-routines, fun, proc}
+use Rattle.meaning.specs.Tree.{Place, Expr, minus, negate, add, sub, mul, less, number, truth, read, signed, binary, both, local, apply, no-args, arg, no-data, const, var, block, assign, perform, fork, while, no-commands, then, no-routines, fun, proc}
 use Rattle.grammar.specs.Words.{Word}
 use Rattle.grammar.specs.Machine.{fine, bad}
 use Rattle.grammar.specs.Table.{reading}

@@ -5,4 +5,5 @@ pub mod Machine
 pub mod Table
 pub mod Answer
 pub mod Spelling
+pub mod Lines
 pub mod Examples

@@ -1,9 +1,8 @@
 -- A stack machine on words for every table of lines: what a word does to the parts that are still to come.
-use mathlib.Core.Path.{_≡_}
-use mathlib.Core.Bool.{Bool, true, false, cond}
+use mathlib.Core.Bool.{cond}
 use mathlib.Core.List.{List, [], _∷_, _++_}
 use mathlib.Core.Option.{Option, some, none}
-use Prim.Native.Nat.{ℕ, suc, _+_, _≤_}
+use Prim.Native.Nat.{ℕ, suc}
 use lib.Dec.{leb}
 use Rattle.lang.specs.declared.word.Kind.{Kind}
 use Rattle.lang.specs.declared.refusal.Refusal.{Refusal}
@@ -40,22 +39,18 @@ pub data Alts {L : Type 0} (V : L → Type 0) : L → Type 0 where
   begins : {l m : L} → Alts V m → (ps : List (Part L)) → (Word → V m → Means V ps → V l) → Alts V l → Alts V l
   enters : {l m : L} → Alts V m → (V m → V l) → Alts V l
 
--- what a word does: it is taken, and these parts still have to come; it cannot be read; or nothing is read before it
-pub data Step {L : Type 0} (V : L → Type 0) (T : Type 0) : Type 0 where
-  take : (ps : List (Part L)) → (Word → Means V ps → T) → Step V T
-  stop : Step V T
-  pass : T → Step V T
-
+-- a tree, or a refusal and the words that were left when it was given
 pub data Out (T : Type 0) : Type 0 where
   fine : T → Out T
   bad : Refusal → List Word → Out T
 
-abbrev pub both : {A B : Type 0} → Option A → Option B → Option (A × B)
-both none y = none
-both (some x) none = none
-both (some x) (some y) = some (x, y)
+-- with what is read as nothing, if it may be
+abbrev pub skip : {A T : Type 0} → Option A → List Word → (A → Out T) → Out T
+skip none ws f = bad Unexpected ws
+skip (some t) ws f = f t
 
 module _ {L : Type 0} (V : L → Type 0) where
+  -- what the first parts mean, and what those after them do
   abbrev pub front : (ps qs : List (Part L)) → Means V (ps ++ qs) → Means V ps
   front [] qs a = tt
   front (tok k ∷ ps) qs a = (a .0, front ps qs (a .1))
@@ -68,23 +63,6 @@ module _ {L : Type 0} (V : L → Type 0) where
   rear (line l ∷ ps) qs a = rear ps qs (a .1)
   rear (leave ∷ ps) qs a = rear ps qs a
 
-  abbrev pub further : {T R : Type 0} → Step V R → (ps : List (Part L)) → (Word → R → Means V ps → T) → Step V T → Step V T
-  further (take qs f) ps b s = take (qs ++ ps) (λ w a. b w (f w (front qs ps a)) (rear qs ps a))
-  further stop ps b s = s
-  further (pass x) ps b s = s
-
-  abbrev pub inside : {T R : Type 0} → Step V R → (R → T) → Step V T
-  inside (take qs f) b = take (qs ++ leave ∷ []) (λ w a. b (f w (front qs (leave ∷ []) a)))
-  inside stop b = stop
-  inside (pass x) b = stop
-
-  abbrev pub at : {l : L} → Alts V l → Kind → Step V (V l)
-  at over k = stop
-  at (empty t) k = pass t
-  at (word j ps b more) k = cond (sameKind j k) (take ps b) (at more k)
-  at (begins inner ps b more) k = further (at inner k) ps b (at more k)
-  at (enters inner b) k = inside (at inner k) b
-
   -- what a line that is read as nothing means
   abbrev pub nothing : {l : L} → Alts V l → Option (V l)
   nothing over = none
@@ -93,35 +71,31 @@ module _ {L : Type 0} (V : L → Type 0) where
   nothing (begins inner ps b more) = nothing more
   nothing (enters inner b) = none
 
-  abbrev pub then : {A : Type 0} → Step V A → (ps : List (Part L)) → Step V (Means V ps) → Step V (A × Means V ps)
-  then (take qs f) ps s = take (qs ++ ps) (λ w a. (f w (front qs ps a), rear qs ps a))
-  then stop ps s = stop
-  then (pass x) ps (take qs f) = take qs (λ w a. (x, f w a))
-  then (pass x) ps stop = stop
-  then (pass x) ps (pass y) = pass (x, y)
+  -- the word w begins one of some alternatives, and then parts of it and the parts ps are to come: go goes on with them. s is for a word that begins none.
+  module _ {T : Type 0} (w : Word) (go : (ps : List (Part L)) → (Means V ps → T) → Out T) where
+    abbrev pub pick : {l : L} → Alts V l → (ps : List (Part L)) → (V l → Means V ps → T) → Out T → Out T
+    pick over ps f s = s
+    pick (empty t) ps f s = s
+    pick (word j qs b more) ps f s = cond (sameKind j (w .kind)) (go (qs ++ ps) (λ a. f (b w (front qs ps a)) (rear qs ps a))) (pick more ps f s)
+    pick (begins inner qs b more) ps f s = pick inner (qs ++ ps) (λ t a. f (b w t (front qs ps a)) (rear qs ps a)) (pick more ps f s)
+    pick (enters inner b) ps f s = pick inner (leave ∷ ps) (λ t a. f (b t) a) s
 
   module _ (rules : (l : L) → Alts V l) where
-    abbrev pub shift : (ps : List (Part L)) → Kind → Step V (Means V ps)
-    shift [] k = pass tt
-    shift (tok j ∷ ps) k = cond (sameKind j k) (take ps (λ w a. (w, a))) stop
-    shift (line l ∷ ps) k = then (at (rules l) k) ps (shift ps k)
-    shift (leave ∷ ps) k = shift ps k
+    -- the parts ps are to come, and the word w, the first of ws, is next
+    abbrev pub next : {T : Type 0} (w : Word) (go : (ps : List (Part L)) → (Means V ps → T) → Out T) (ws : List Word) (ps : List (Part L)) → (Means V ps → T) → Out T
+    next w go ws [] f = bad Unexpected ws
+    next w go ws (tok j ∷ ps) f = cond (sameKind j (w .kind)) (go ps (λ a. f (w, a))) (bad Unexpected ws)
+    next w go ws (line l ∷ ps) f = pick w go (rules l) ps (λ t a. f (t, a)) (skip (nothing (rules l)) ws (λ t. next w go ws ps (λ a. f (t, a))))
+    next w go ws (leave ∷ ps) f = next w go ws ps f
 
-    abbrev pub ending : (ps : List (Part L)) → Option (Means V ps)
-    ending [] = some tt
-    ending (tok j ∷ ps) = none
-    ending (line l ∷ ps) = both (nothing (rules l)) (ending ps)
-    ending (leave ∷ ps) = ending ps
+    -- the parts ps are to come, and there is no word
+    abbrev pub end : {T : Type 0} (ps : List (Part L)) → (Means V ps → T) → Out T
+    end [] f = fine (f tt)
+    end (tok j ∷ ps) f = bad Unexpected []
+    end (line l ∷ ps) f = skip (nothing (rules l)) [] (λ t. end ps (λ a. f (t, a)))
+    end (leave ∷ ps) f = end ps f
 
-    abbrev pub finish : {A T : Type 0} → Option A → (A → T) → Out T
-    finish (some a) f = fine (f a)
-    finish none f = bad Unexpected []
-
-    -- the machine: ps is still to come, and f says what it all means then
-    abbrev pub run : {T : Type 0} → (ws : List Word) (ps : List (Part L)) → (Means V ps → T) → Out T
-    run [] ps f = finish (ending ps) f
-    run (w ∷ ws) ps f = elim (shift ps (w .kind)) [
-      | take qs g ↦ let r = run ws qs (λ a. f (g w a)) in cond (leb (depth qs) 64) r (bad NestTooDeep (w ∷ ws))
-      | stop ↦ bad Unexpected (w ∷ ws)
-      | pass a ↦ bad Unexpected (w ∷ ws)
-    ]
+    -- the machine: the parts ps are to come, and f says what all means then
+    abbrev pub run : {T : Type 0} (ws : List Word) (ps : List (Part L)) → (Means V ps → T) → Out T
+    run [] ps f = end ps f
+    run (w ∷ ws) ps f = next w (λ qs g. cond (leb (depth qs) 64) (run ws qs g) (bad NestTooDeep (w ∷ ws))) (w ∷ ws) ps f

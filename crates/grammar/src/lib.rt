@@ -2,6 +2,7 @@
 // No code runs here: each function's contract is a theorem.
 ghost use Rattle.grammar.specs.Answer.{Reading-decides};
 ghost use Rattle.grammar.specs.Spelling.{Kinds-suffice};
+ghost use Rattle.grammar.specs.Lines.{Lines-hold};
 ghost use Rattle.grammar.specs.Examples.{Examples-hold};
 
 // Reading decides the grammar: a tree, 7 or 8, each exactly where the texts that exist say so; at most one tree.
@@ -14,6 +15,13 @@ pub fn reading_decides() -> u8
 // Words of the same kinds as a text's are a text.
 pub fn kinds_suffice() -> u8
     ensures { λ _. ⌜ Kinds-suffice ⌝ }
+{
+    0
+}
+
+// Reading goes line by line, whatever is to come after a line.
+pub fn lines_hold() -> u8
+    ensures { λ _. ⌜ Lines-hold ⌝ }
 {
     0
 }

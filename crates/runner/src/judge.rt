@@ -1,3 +1,4 @@
+ghost use Rattle.runner.specs.Judged.{Judged};
 use crate::answer::Answer;
 use frames::memory::BuildFrames;
 use lang::code::Code;
@@ -33,7 +34,9 @@ pub fn judge<'m, F: BuildFrames + Drop>(
     sheet: &mut Sheet,
     memory: Memory<'m>,
     frames: F,
-) -> Result<Answer, Refusal> {
+) -> Result<Answer, Refusal>
+    ensures { λ r. ⌜ Judged r (now (sheet .entry)) (now (sheet .exit)) ⌝ }
+{
     let Memory {
         nodes,
         names,
