@@ -214,8 +214,8 @@ impl Tally {
     }
 }
 
-// How many calls, how many of 100 open and enter, and the bound of most widths: 8,000 calls that lead to many
-// frames, to many slots, to long chains, and back and forth.
+// How many calls, how many of 100 open and enter, and the bound of most widths: 8,000 calls that
+// lead to many frames, to many slots, to long chains, and back and forth.
 const MIXTURES: [(u32, usize, usize, u64); 5] = [
     (1500, 15, 65, 4),
     (2000, 20, 40, 60),
@@ -287,10 +287,12 @@ impl<'c, 'd> Trio<'c, 'd> {
 
     // Leaves all frames, so that each is the last once.
     fn unwind(&mut self) -> Result<(), Fail> {
-        for _ in 0..256 {
-            let _ = self.turn(Call::Leave)?;
+        for _ in 0..257 {
+            if let Answer::Refused(_) = self.turn(Call::Leave)? {
+                return Ok(());
+            }
         }
-        check_eq(self.turn(Call::Leave)?, Answer::Refused(28))
+        Err(Fail::new("over 256 frames"))
     }
 
     // So many calls of one mixture, and then out of all frames.
