@@ -1,8 +1,13 @@
 // Trials of the frame memories: the static chain, the display and a plain model get the same calls.
-pub mod call;
+#[cfg(test)]
+mod call;
+#[cfg(test)]
 mod edges;
+#[cfg(test)]
 mod limits;
-pub mod model;
-pub mod step;
+#[cfg(test)]
+mod model;
+#[cfg(test)]
+mod step;
 #[cfg(test)]
 mod tests;

@@ -214,6 +214,16 @@ impl Tally {
     }
 }
 
+// How many calls, how many of 100 open and enter, and the bound of most widths: 8,000 calls that
+// lead to many frames, to many slots, to long chains, and back and forth.
+const MIXTURES: [(u32, usize, usize, u64); 5] = [
+    (1500, 15, 65, 4),
+    (2000, 20, 40, 60),
+    (1500, 60, 10, 5),
+    (1500, 16, 16, 40),
+    (1500, 20, 60, 9),
+];
+
 // The chain, the display and the model side by side.
 #[derive(Drop)]
 struct Trio<'c, 'd> {
@@ -246,12 +256,14 @@ impl<'c, 'd> Trio<'c, 'd> {
     fn turn(&mut self, call: Call) -> Result<Answer, Fail> {
         let want = self.model.answer(call);
         self.tally.add(want);
-        same_answer(self.heap, &mut self.chain, call, want).note(format_args!("chain, {call:?}"))?;
-        same_answer(self.heap, &mut self.display, call, want).note(format_args!(
-            "display, {call:?}"
-        ))?;
-        self.compare().note(format_args!("after {call:?}"))?;
+        self.expect(call, want).note(format_args!("{call:?}"))?;
         Ok(want)
+    }
+
+    fn expect(&mut self, call: Call, want: Answer) -> Result<(), Fail> {
+        same_answer(self.heap, &mut self.chain, call, want).note("chain")?;
+        same_answer(self.heap, &mut self.display, call, want).note("display")?;
+        self.compare()
     }
 
     fn compare(&mut self) -> Result<(), Fail> {
@@ -275,13 +287,15 @@ impl<'c, 'd> Trio<'c, 'd> {
 
     // Leaves all frames, so that each is the last once.
     fn unwind(&mut self) -> Result<(), Fail> {
-        for _ in 0..256 {
-            let _ = self.turn(Call::Leave)?;
+        for _ in 0..257 {
+            if let Answer::Refused(_) = self.turn(Call::Leave)? {
+                return Ok(());
+            }
         }
-        check_eq(self.turn(Call::Leave)?, Answer::Refused(28))
+        Err(Fail::new("over 256 frames"))
     }
 
-    // So many calls of one mixture.
+    // So many calls of one mixture, and then out of all frames.
     fn calls(
         &mut self,
         counter: &mut Counter,
@@ -294,12 +308,38 @@ impl<'c, 'd> Trio<'c, 'd> {
             let call = counter.call(open, enter, bound);
             self.turn(call)?;
         }
-        Ok(())
+        self.unwind()
+    }
+
+    fn mixtures(&mut self, counter: &mut Counter) -> Result<(), Fail> {
+        for (times, open, enter, bound) in MIXTURES {
+            self.calls(counter, times, open, enter, bound)?;
+        }
+        self.often()
+    }
+
+    // Each answer came often.
+    fn often(&self) -> Result<(), Fail> {
+        check(self.tally.done > 2000).note("done")?;
+        check(self.tally.frames > 100).note("frames")?;
+        check(self.tally.slots > 100).note("slots")?;
+        check(self.tally.chain > 100).note("chain")?;
+        check(self.tally.none > 100).note("none")
+    }
+
+    // The steps, and out of all frames; then, given a seed, the calls from a counter.
+    fn follow(&mut self, steps: &[Step], seed: Option<u64>) -> Result<(), Fail> {
+        self.steps(steps)?;
+        self.unwind()?;
+        match seed {
+            Some(seed) => self.mixtures(&mut Counter(seed)),
+            None => Ok(()),
+        }
     }
 }
 
-// The steps over dirty memory, and then out of all frames.
-fn play(heap: Global, steps: &[Step]) -> Result<(), Fail> {
+// All three over dirty memory.
+fn play(heap: Global, steps: &[Step], seed: Option<u64>) -> Result<(), Fail> {
     let (mut links, mut starts, mut slots) = lent(heap, 256)?;
     let chain = Chain::over(
         links.as_mut_slice(),
@@ -314,25 +354,24 @@ fn play(heap: Global, steps: &[Step]) -> Result<(), Fail> {
     )?;
     let mut trio = Trio::new(heap, chain, display);
     trio.compare()?;
-    trio.steps(steps)?;
-    trio.unwind()
+    trio.follow(steps, seed)
 }
 
 #[test]
 fn edges_of_frames(rt: LibcRuntime) -> Result<(), Fail> {
     let heap = rt.alloc();
-    play(heap, &edges::NO_FRAME).note("no frame")?;
-    play(heap, &edges::UNSET).note("unset")?;
-    play(heap, &edges::BETWEEN).note("between")
+    play(heap, &edges::NO_FRAME, None).note("no frame")?;
+    play(heap, &edges::UNSET, None).note("unset")?;
+    play(heap, &edges::BETWEEN, None).note("between")
 }
 
 #[test]
 fn limits_of_memory(rt: LibcRuntime) -> Result<(), Fail> {
     let heap = rt.alloc();
-    play(heap, &limits::FRAMES).note("frames")?;
-    play(heap, &limits::SLOTS).note("slots")?;
-    play(heap, &limits::CHAIN).note("chain")?;
-    play(heap, &limits::TOGETHER).note("together")
+    play(heap, &limits::FRAMES, None).note("frames")?;
+    play(heap, &limits::SLOTS, None).note("slots")?;
+    play(heap, &limits::CHAIN, None).note("chain")?;
+    play(heap, &limits::TOGETHER, None).note("together")
 }
 
 // Lengths of parents, levels, starts and slots: too short for both memories.
@@ -360,40 +399,7 @@ fn short_memory(rt: LibcRuntime) -> Result<(), Fail> {
     check_eq(display_refusal(heap, 4097, 300, 2049)?, 0)
 }
 
-// 4,000 calls: to many frames, to many slots, to long chains, and back and forth.
-fn wander(trio: &mut Trio<'_, '_>, counter: &mut Counter) -> Result<(), Fail> {
-    trio.calls(counter, 1200, 15, 65, 4)?;
-    trio.turn(Call::Clear)?;
-    trio.calls(counter, 1000, 20, 40, 60)?;
-    trio.turn(Call::Clear)?;
-    trio.calls(counter, 800, 60, 10, 5)?;
-    trio.calls(counter, 1000, 12, 12, 40)?;
-    trio.unwind()
-}
-
 #[test]
 fn calls_from_a_counter(rt: LibcRuntime) -> Result<(), Fail> {
-    let heap = rt.alloc();
-    let (mut links, mut starts, mut slots) = lent(heap, 256)?;
-    let chain = Chain::over(
-        links.as_mut_slice(),
-        starts.as_mut_slice(),
-        slots.as_mut_slice(),
-    )?;
-    let (mut links, mut starts, mut slots) = lent(heap, 4096)?;
-    let display = Display::over(
-        links.as_mut_slice(),
-        starts.as_mut_slice(),
-        slots.as_mut_slice(),
-    )?;
-    let mut trio = Trio::new(heap, chain, display);
-    let mut counter = Counter(2024);
-    wander(&mut trio, &mut counter)?;
-    wander(&mut trio, &mut counter)?;
-    // each answer came often
-    check(trio.tally.done > 2000)?;
-    check(trio.tally.frames > 100)?;
-    check(trio.tally.slots > 100)?;
-    check(trio.tally.chain > 100)?;
-    check(trio.tally.none > 100)
+    play(rt.alloc(), &edges::BETWEEN, Some(2024))
 }
