@@ -8,7 +8,7 @@ use lib.Dec.{leb, eqb, ltb}
 use lib.ListN.{length, getD, set, take, drop, replicate}
 use native.Mathlib.Omega.{arith}
 use native.Mathlib.Numerals.{add-one}
-use Rattle.std.proofs.shelf.Tests.{cases-lt, cond-true, cond-false, lt-ltb, le-ltb, le-leb, lt-leb}
+use Rattle.std.proofs.shelf.Tests.{cases-lt, cond-true, cond-false, lt-ltb, le-ltb, lt-leb}
 use lib.Seq.{take-set-lt}
 use Rattle.std.proofs.shelf.Parts.{between-is}
 use Rattle.std.proofs.shelf.Lists.{take-take, take-at, drop-at, getD-set-same, getD-set-other, take-set-le, drop-set-lt, drop-set-add, length-take-le, length-take, length-drop, getD-take, getD-drop}
@@ -297,14 +297,6 @@ module _ (fs gs : Frames) (n : ℕ) where
 
   abbrev slot-test : Built
   slot-test = cond (ltb 2048 (total fs + n)) (refused TooManySlots fs) last-test
-
-  pub grown-frames : 256 ≤ count fs → refused TooManyFrames fs ≡ grown fs gs n
-  grown-frames a = sym (cond-true (leb 256 (count fs)) (refused TooManyFrames fs) slot-test (le-leb 256 (count fs) a))
-
-  pub grown-slots : count fs < 256 → 2048 < total fs + n → refused TooManySlots fs ≡ grown fs gs n
-  grown-slots a b =
-      sym (cond-false (leb 256 (count fs)) (refused TooManyFrames fs) slot-test (lt-leb 256 (count fs) a)
-      ∙ cond-true (ltb 2048 (total fs + n)) (refused TooManySlots fs) last-test (lt-ltb 2048 (total fs + n) b))
 
   grown-room : count fs < 256 → total fs + n ≤ 2048 → grown fs gs n ≡ last-test
   grown-room a b =

@@ -14,7 +14,8 @@ use Rattle.std.specs.declared.option.Option.the-variants.{Some, None}
 use Rattle.std.specs.declared.result.Result.the-variants.{Ok, Err}
 use Rattle.lang.specs.declared.value.Slot.{Slot}
 use Rattle.lang.specs.declared.value.Slot.the-variants.{Unset}
-use Rattle.lang.specs.declared.refusal.Refusal.the-variants.{NoSuchSlot}
+use Rattle.lang.specs.declared.refusal.Refusal.{Refusal}
+use Rattle.lang.specs.declared.refusal.Refusal.the-variants.{NoSuchSlot, TooManyFrames, TooManySlots}
 use Rattle.frames.specs.declared.slots.FrameSlots.{FrameSlots}
 use Rattle.frames.specs.Frames.{Frame, Frames, none, _▷_, got, walk, written, done, refused}
 
@@ -100,6 +101,10 @@ pub record LaidOut (s : FrameSlots) : Type 0 where
   pub few : s .count ≤ 256
   pub small : s .used ≤ 2048
   pub rising : rises (now (s .starts)) (s .count) (s .used) ≡ true
+
+-- the limit that a frame of n slots would pass where c frames and u slots stand
+abbrev pub passedBy : ℕ → ℕ → ℕ → Option Refusal
+passedBy c u n = cond (leb 256 c) (Some TooManyFrames) (cond (ltb 2048 (u + n)) (Some TooManySlots) None)
 
 -- there is room for a frame of n slots
 pub record Room (s : FrameSlots) (n : ℕ) : Type 0 where

@@ -5,7 +5,7 @@ ghost use Prim.Native.Nat.{ℕ, _+_, _≤_, _<_};
 ghost use lib.ListN.{length, getD, take, replicate};
 ghost use Rattle.std.specs.Results.{Cases as ByOk};
 ghost use Rattle.frames.specs.Frames.{Frames, none, _▷_, count as frameTotal, total as slotTotal, got, width, grown, fresh, left, written, refused};
-ghost use Rattle.frames.specs.Layout.{before, endOf, Inside, framesIn, Within, PlacedIn, Reached, Same, LaidOut, Room, shortSlots};
+ghost use Rattle.frames.specs.Layout.{before, endOf, Inside, framesIn, Within, PlacedIn, Reached, Same, LaidOut, Room, passedBy, shortSlots};
 ghost use Rattle.lang.specs.Refusals.{number};
 use crate::slots::FrameSlots;
 use lang::refusal::Refusal;
@@ -20,6 +20,19 @@ fn inside(start: usize, end: usize, offset: usize) -> Option<usize>
     } else {
         None
     }
+}
+
+// The limit that a frame of n slots would pass where `count` frames and `used` slots stand: 23, then 24.
+fn passed(count: usize, used: usize, n: usize) -> Option<Refusal>
+    ensures { λ r. ⌜ r ≡ passedBy count used n ⌝ }
+{
+    if count >= 256 {
+        return Some(Refusal::TooManyFrames);
+    }
+    if used > 2048 || n > 2048 - used {
+        return Some(Refusal::TooManySlots);
+    }
+    None
 }
 
 impl<'m> FrameSlots<'m> {
@@ -194,15 +207,12 @@ impl<'m> FrameSlots<'m> {
             (λ _. Room (now (self .entry)) n)
             (λ e. (LaidOut (now (self .entry)) → (up : ℕ → ℕ) (gs : Frames) → refused e (framesIn up (now (self .entry))) ≡ grown (framesIn up (now (self .entry))) gs n)) ⌝ }
     {
-        if self.count >= 256 {
-            return Err(Refusal::TooManyFrames);
+        if let Some(why) = passed(self.count, self.used, n) {
+            return Err(why);
         }
-        // cannot be: the memory is long enough since it was taken over, and no more of it is in use
-        if self.used > 2048 || self.starts.len() < 256 || self.cells.len() < 2048 {
+        // cannot be: the memory is long enough since it was taken over
+        if self.starts.len() < 256 || self.cells.len() < 2048 {
             return Err(Refusal::ShortMemory);
-        }
-        if n > 2048 - self.used {
-            return Err(Refusal::TooManySlots);
         }
         Ok(())
     }
