@@ -23,6 +23,7 @@ fn starting(sheet: &Sheet, table: &mut [Value; 32]) -> usize
 {
     let count = sheet.len();
     for i in 0..count {
+        // each number below the count has an entry
         if let Some(entry) = sheet.entry(i) {
             table[i] = entry.value;
         }
@@ -35,6 +36,7 @@ fn take_over<F: BuildFrames + Drop>(machine: &Machine<F>, sheet: &mut Sheet)
     ensures { λ _. ⌜ (Ready (F·ReadFrames .sound) (now (machine .entry)) → TakenOver (F·ReadFrames .frames (now (machine .entry) .frames)) (entriesOf (now (sheet .entry))) (entriesOf (now (sheet .exit)))) ⌝ }
 {
     for i in 0..sheet.len() {
+        // after done each slot of the first frame holds a value
         if let Some(value) = machine.entry(i) {
             sheet.overwrite(i, value);
         }
@@ -48,6 +50,7 @@ fn settle<F: BuildFrames + Drop>(outcome: Outcome, machine: &Machine<F>, sheet: 
     match outcome {
         Outcome::Done => take_over(machine, sheet),
         Outcome::Fault { .. } => {}
+        // neither happens to a rule's code that has all its steps
         Outcome::Paused => {}
         Outcome::Stuck => {}
     }

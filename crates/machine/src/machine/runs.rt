@@ -32,6 +32,7 @@ fn put_all<F: BuildFrames + Drop>(frames: &mut F, values: &[Value])
     ensures { λ _. ⌜ (F·ReadFrames .sound (now (frames .entry)) → F·ReadFrames .frames (now (frames .entry)) ≡ none ▷ fresh (length (now (values .entry))) None → F·ReadFrames .sound (now (frames .exit)) × (F·ReadFrames .frames (now (frames .exit)) ≡ startFrames (now (values .entry)))) ⌝ }
 {
     for o in 0..values.len() {
+        // the frame has a slot for each value
         let _ = frames.put(0, o, values[o].slot());
     }
 }

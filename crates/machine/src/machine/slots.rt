@@ -37,6 +37,7 @@ fn move_args<F: BuildFrames + Drop>(values: &mut Stack<Value>, frames: &mut F, c
         match values.pop() {
             None => return false,
             Some(v) => {
+                // the frame just entered has a slot for each arg
                 let _ = frames.put(0, left - 1, v.slot());
             }
         }
