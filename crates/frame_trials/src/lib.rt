@@ -1,4 +1,6 @@
 // Trials of the frame memories: the static chain, the display and a plain model get the same calls.
+#![tactic(auto)]
+
 #[cfg(test)]
 mod call;
 #[cfg(test)]

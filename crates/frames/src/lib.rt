@@ -1,4 +1,6 @@
 // Frame memories: the two halves of the interface, the static chain and the display.
+#![tactic(auto)]
+
 pub mod chain;
 pub mod display;
 mod link;

@@ -1,5 +1,7 @@
 // The grammar: which words are a rule, the tree they build, and that one pass over the words decides it.
 // No code runs here: each function's contract is a theorem.
+#![tactic(auto)]
+
 ghost use Rattle.grammar.specs.Answer.{ReadingDecides};
 ghost use Rattle.grammar.specs.Spelling.{KindsSuffice};
 ghost use Rattle.grammar.specs.Lines.{LinesHold};

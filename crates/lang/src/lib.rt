@@ -1,4 +1,6 @@
 // The vocabulary of the engine: values, names, the sheet, refusals, faults, instructions, code, and the stack.
+#![tactic(auto)]
+
 pub mod byte;
 pub mod code;
 pub mod fault;

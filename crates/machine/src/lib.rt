@@ -1,4 +1,6 @@
 // The machine: one step, and a run with a budget, over every frame memory.
+#![tactic(auto)]
+
 pub mod machine;
 pub mod operators;
 pub mod outcome;

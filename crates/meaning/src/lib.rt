@@ -1,5 +1,7 @@
 // The language: what a rule means, what its code is, what the machine does with it, and that they agree.
 // No code runs here: each function's contract is a theorem.
+#![tactic(auto)]
+
 ghost use Rattle.meaning.specs.Violations.{RefusalIsLeast};
 ghost use Rattle.meaning.specs.Agreement.{CodeMeans, NeverStuck, FramesServe, RunsCut, RunsEnd, MemorySuffices, PairLaw, CodeIsShort};
 ghost use Rattle.meaning.specs.Pairs.{PairsLead};

@@ -1,4 +1,6 @@
 // From a text to its tree: words, grammar, and the table of nodes.
+#![tactic(auto)]
+
 mod grammar;
 pub mod node;
 mod number;

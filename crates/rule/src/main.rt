@@ -1,4 +1,6 @@
 // Reads a rule from standard input, runs it over the sheet of the examples, and prints what became of it.
+#![tactic(auto)]
+
 use anyhow::anyhow;
 use lang::refusal::Refusal;
 use runner::example::example_sheet;

@@ -1,4 +1,6 @@
 // A rule from its text to its outcome and the lines that report it.
+#![tactic(auto)]
+
 pub mod answer;
 pub mod example;
 pub mod judge;

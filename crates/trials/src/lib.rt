@@ -1,4 +1,6 @@
 // Trials: tables of texts with what becomes of them, over both frame memories.
+#![tactic(auto)]
+
 pub mod case;
 mod examples;
 mod faults;

@@ -7,7 +7,7 @@ pub returns-then-has-at : goal.returns-then-has-at
 returns-then-has-at c = sym (c.loop-i.invariant ∙ named_here c.args.name (entries_of c.args.self.now) c.loop-i.i c.if-has-at.ensures)
 
 pub loop-i-preserved : goal.loop-i-preserved
-loop-i-preserved c = c.loop-i.invariant ∙ named_on c.args.name (entries_of c.args.self.now) c.loop-i.i c.if-has-at.ensures
+loop-i-preserved c = c.loop-i.invariant ∙ named_on c.args.name (entries_of c.args.self.now) c.loop-i.i c.if-has_at.ensures
 
 pub returns : goal.returns
 returns c = sym (c.loop-i.invariant ∙ named_end c.args.name (entries_of c.args.self.now) c.loop-i.i (omega (arith, c.len-i-end.ensures.value)))

@@ -14,7 +14,7 @@ pub loop-i-preserved : goal.loop-i-preserved
 loop-i-preserved c =
     let ds = c.args.entries.now in
     let i = c.loop-i.i in
-    c.loop-i.invariant ∙ after_next (Some (entries_of c.loop-i.sheet)) ds i _ c.loop-i-test.true ∙ ap (λ s. sheet_after s (drop (i + 1) ds)) (sym c.if-not-add-described.ensures)
+    c.loop-i.invariant ∙ after_next (Some (entries_of c.loop-i.sheet)) ds i _ c.loop-i-test.true ∙ ap (λ s. sheet_after s (drop (i + 1) ds)) (sym c.if-not-add_described.ensures)
 
 pub returns : goal.returns
 returns c = sym (c.loop-i.invariant ∙ ap (sheet_after (Some (entries_of c.loop-i.sheet))) (drop_all c.loop-i.i c.args.entries.now c.loop-i-test.false))

@@ -6,7 +6,7 @@ pub returns-then-not-in-name : goal.returns-then-not-in-name
 returns-then-not-in-name c = sym (c.loop-i.invariant ∙ all_name_off c.args.bytes.now c.loop-i.i (omega arith) (sym c.if-not-in-name.ensures))
 
 pub loop-i-preserved : goal.loop-i-preserved
-loop-i-preserved c = c.loop-i.invariant ∙ all_name_on c.args.bytes.now c.loop-i.i (omega arith) (sym c.if-not-in-name.ensures)
+loop-i-preserved c = c.loop-i.invariant ∙ all_name_on c.args.bytes.now c.loop-i.i (omega arith) (sym c.if-not-in_name.ensures)
 
 pub returns : goal.returns
 returns c = sym (c.loop-i.invariant ∙ all_name_end c.args.bytes.now c.loop-i.i (omega arith))
