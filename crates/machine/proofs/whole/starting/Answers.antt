@@ -14,7 +14,7 @@ loop-i-preserved c =
           let e = w.in-Some.entry in
           let h : i < length c.loop-i.table = omega (arith, c.loop-i.invariant.0, c.len-count.ensures.few) in
           (ap length w.table-is ∙ simp length-set c.loop-i.invariant.0, ap (take (i + 1)) w.table-is ∙ take_more_set c.loop-i.table i e.value h ∙ ap (λ vs. vs ++ (e.value ∷ [])) c.loop-i.invariant.1 ∙ values_more es i e w.in-Some.ensures.value)
-      | goal.in-default w ↦ absurd (is_there es i (omega (arith, c.len-count.ensures.value)) w.in-default.ensures.value)
+      | goal.in_default w ↦ absurd (is_there es i (omega (arith, c.len-count.ensures.value)) w.in_default.ensures.value)
     ]
 
 pub returns : goal.returns

@@ -14,7 +14,7 @@ loop-i-preserved g c = λ r fs k e.
       | goal.in-Some w ↦
           let v = w.in-Some.value in
           ap entries_of w.sheet-is ∙ w.overwrite.ensures ∙ ap (λ xs. valued xs i v) (c.loop-i.invariant r fs k e) ∙ mixed_more i es fs v k (w.in-Some.ensures r ∙ ap (λ x. value_got (got x 0 i)) e)
-      | goal.in-default w ↦ absurd (has_value i es fs k h (w.in-default.ensures r ∙ ap (λ x. value_got (got x 0 i)) e))
+      | goal.in_default w ↦ absurd (has_value i es fs k h (w.in_default.ensures r ∙ ap (λ x. value_got (got x 0 i)) e))
     ]
 
 pub returns : goal.returns

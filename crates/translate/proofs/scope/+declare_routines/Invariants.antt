@@ -1,5 +1,5 @@
 use Rattle.std.proofs.Common.{◌+◌}
 use Rattle.translate.proofs.scope.+declare_routines.Given as goal
 
-abbrev pub decreases-declare-routines : goal.decreases-declare-routines
-decreases-declare-routines l = l.end
+abbrev pub decreases-declare_routines : goal.decreases-declare_routines
+decreases-declare_routines l = l.end

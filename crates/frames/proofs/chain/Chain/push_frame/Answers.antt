@@ -10,8 +10,8 @@ pub returns : goal.returns
 returns c = λ s w.
     let m = c.args.self.now in
     let n = m.slots.count in
-    let at = c.frame-count-at.result in
-    let e : n ≡ at = sym c.frame-count-at.ensures.is in
+    let at = c.frame_count-at.result in
+    let e : n ≡ at = sym c.frame_count-at.ensures.is in
     let ps = m.parents.now in
     let link = c.encoded.result in
     let few : at ≤ 256 = omega (arith, s.laid_out.few) in

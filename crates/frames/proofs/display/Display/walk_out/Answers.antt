@@ -41,8 +41,8 @@ returns c = λ s w.
     let m = c.args.self.now in
     let from = c.args.from in
     let h = c.args.hops in
-    let x = c.level-above.result in
-    let e = c.level-above.ensures in
+    let x = c.level_above.result in
+    let e = c.level_above.ensures in
     let few : m.slots.count ≤ 256 = s.laid_out.few in
     let out : Out m from h x s w = ⊎_elim
     (λ (l : h < 16). near m from h x s w l (e.near s.level_room (within_more from m.slots.count 256 w few) l))

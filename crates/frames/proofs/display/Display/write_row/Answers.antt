@@ -24,7 +24,7 @@ loop-h-preserved c =
     let L = c.loop-h.self.levels.now in
     let h = c.loop-h.h in
     let i = n * 16 + (h + 1) in
-    let x = c.level-above-x.result in
+    let x = c.level_above-x.result in
     let link = link_of c.args.parent in
     let inv = c.loop-h.invariant in
     let ne : n * 16 + 0 ≢ i = omega arith in
@@ -35,7 +35,7 @@ loop-h-preserved c =
       (λ w. below_more (λ j. level (set L i x) n (j + 1) ≡ above L0 link j) h
           (λ j l. let nj : n * 16 + (j + 1) ≢ i = omega arith in get_or-set_other L i (n * 16 + (j + 1)) x 0 nj ∙ inv.1 w j l)
           (get_or-set_same L i x 0 room
-          ∙ c.level-above-x.ensures.near all (within_more c.args.parent n 256 w (omega arith)) (omega arith)
+          ∙ c.level_above-x.ensures.near all (within_more c.args.parent n 256 w (omega arith)) (omega arith)
           ∙ above_kept L0 L n inv.2 link h (link_under c.args.parent n w) (omega arith))),
       kept_trans L0 L (set L i x) n inv.2 (kept_set L n i x (omega arith)),
       simp length-set (inv.3 ∙ full),

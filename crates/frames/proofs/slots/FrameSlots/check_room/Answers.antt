@@ -15,5 +15,5 @@ returns-in-Some c = λ s up gs.
 pub returns : goal.returns
 returns c =
     let m = c.args.self.now in
-    let h = unlimited m.count m.used c.args.n c.in-default.ensures in
+    let h = unlimited m.count m.used c.args.n c.in_default.ensures in
     record { starts = c.if-self-lt256.false; cells = c.if-self-lt2048.false; frames = h.0; slots = h.1 }

@@ -11,7 +11,7 @@ returns-in-Some c = λ s.
     let u = c.cut.ensures in
     let k = c.in-Some.k in
     let q : suc k ≡ m.count = before_suc k m.count c.in-Some.ensures.is in
-    let st : c.start-of-start.result ≡ get_or m.starts.now k 0 = c.start-of-start.ensures.is (omega (arith, s.few, s.start_room)) in
+    let st : c.start_of-start.result ≡ get_or m.starts.now k 0 = c.start_of-start.ensures.is (omega (arith, s.few, s.start_room)) in
     let us : l.used ≡ get_or m.starts.now k 0 = u.used ∙ st in
     let r = rises-parts m.starts.now k m.used (ap (λ j. rises m.starts.now j m.used) q ∙ s.rising) in (
       record {

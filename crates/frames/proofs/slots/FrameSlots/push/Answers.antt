@@ -6,8 +6,8 @@ use Rattle.frames.proofs.slots.FrameSlots.push.Goals as goal
 pub returns : goal.returns
 returns c = λ s.
     let m = c.args.self.now in
-    let l = c.unset-new.new.self in
-    let u = c.unset-new.ensures in
+    let l = c.unset_new.new.self in
+    let u = c.unset_new.ensures in
     let ls : length l.starts.now ≡ length m.starts.now = ap length u.starts in (
       record {
         start_room = simp length-set (omega (arith, s.start_room));

@@ -9,7 +9,7 @@ returns-in-Some c = λ s w up h e.
     let k = c.in-Some.k in
     let lt : k < m.count = subst (λ r. Within r m.count) c.in-Some.is w in
     let f : Reached up m (Some k) h = ap (part_in up m) (sym c.in-Some.is) ∙ e in
-    let st : c.start-of-start.result ≡ get_or m.starts.now k 0 = c.start-of-start.ensures.is (omega (arith, s.few, s.start_room)) in
-    let en = c.end-of.ensures s lt in
-    let d : c.saturating-sub.result ≡ end_of m.starts.now m.count m.used k - get_or m.starts.now k 0 = omega arith in
+    let st : c.start_of-start.result ≡ get_or m.starts.now k 0 = c.start_of-start.ensures.is (omega (arith, s.few, s.start_room)) in
+    let en = c.end_of.ensures s lt in
+    let d : c.saturating_sub.result ≡ end_of m.starts.now m.count m.used k - get_or m.starts.now k 0 = omega arith in
     ap Ok d ∙ width_in up m.starts.now m.cells.now m.count m.used s.rising (omega (arith, s.small, s.cell_room)) h k f lt

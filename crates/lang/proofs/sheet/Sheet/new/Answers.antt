@@ -4,11 +4,11 @@ use Rattle.lang.specs.Sheets.{entries_of, sheet_after}
 use Rattle.lang.proofs.Sheets.{after_next, after_none}
 use Rattle.lang.proofs.sheet.Sheet.new.Goals as goal
 
-pub returns-then-not-add-described : goal.returns-then-not-add-described
-returns-then-not-add-described c =
+pub returns-then-not-add_described : goal.returns-then-not-add_described
+returns-then-not-add_described c =
     let ds = c.args.entries.now in
     let i = c.loop-i.i in
-    (sym (c.loop-i.invariant ∙ after_next (Some (entries_of c.loop-i.sheet)) ds i _ c.loop-i-test.true ∙ ap (λ s. sheet_after s (drop (i + 1) ds)) (sym c.if-not-add-described.ensures) ∙ after_none (drop (i + 1) ds)), refl)
+    (sym (c.loop-i.invariant ∙ after_next (Some (entries_of c.loop-i.sheet)) ds i _ c.loop-i-test.true ∙ ap (λ s. sheet_after s (drop (i + 1) ds)) (sym c.if-not-add_described.ensures) ∙ after_none (drop (i + 1) ds)), refl)
 
 pub loop-i-preserved : goal.loop-i-preserved
 loop-i-preserved c =

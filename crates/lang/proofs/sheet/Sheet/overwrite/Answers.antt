@@ -4,8 +4,8 @@ use Rattle.lang.proofs.Held.{take_of_set}
 use Rattle.lang.proofs.Sheets.{valued_some, valued-none}
 use Rattle.lang.proofs.sheet.Sheet.overwrite.Goals as goal
 
-pub returns-in-default : goal.returns-in-default
-returns-in-default c = valued-none (entries_of c.args.self.now) c.args.number c.args.value c.in-default.ensures.value
+pub returns-in_default : goal.returns-in_default
+returns-in_default c = valued-none (entries_of c.args.self.now) c.args.number c.args.value c.in_default.ensures.value
 
 pub returns : goal.returns
 returns c =

@@ -32,8 +32,8 @@ decreases-either l = 12 * unread l.self.now + 8
 abbrev pub decreases-expr : goal.decreases-expr
 decreases-expr l = 12 * unread l.self.now + 10
 
-abbrev pub decreases-named-atom : goal.decreases-named-atom
-decreases-named-atom l = 12 * unread l.self.now + 0
+abbrev pub decreases-named_atom : goal.decreases-named_atom
+decreases-named_atom l = 12 * unread l.self.now + 0
 
 abbrev pub decreases-prefix : goal.decreases-prefix
 decreases-prefix l = 12 * unread l.self.now + 3

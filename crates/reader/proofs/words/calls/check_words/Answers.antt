@@ -7,25 +7,25 @@ use Rattle.reader.proofs.words.calls.check_words.Goals as goal
 
 pub loop-preserved : goal.loop-preserved
 loop-preserved c =
-    let n = subst (λ o. Next c.loop.words c.next.new.self (Ok o)) c.in-Some.is c.in-ok-next.ensures.words in
+    let n = subst (λ o. Next c.loop.words c.next.new.self (Ok o)) c.in-Some.is c.in_ok-next.ensures.words in
     after-word c.loop.words c.next.new.self c.in-Some.field-0 n ∙ c.loop.invariant
 
 pub loop-smaller : goal.loop-smaller
 loop-smaller c =
-    let n = subst (λ o. Next c.loop.words c.next.new.self (Ok o)) c.in-Some.is c.in-ok-next.ensures.words in
+    let n = subst (λ o. Next c.loop.words c.next.new.self (Ok o)) c.in-Some.is c.in_ok-next.ensures.words in
     let l = ap (λ y. length y.now) c.next.ensures.same in
     let k = c.next.ensures.within in
     omega (arith, n.1, l, k)
 
 pub returns : goal.returns
 returns c =
-    let n = subst (λ o. Next c.loop.words c.next.new.self (Ok o)) c.in-default.is c.in-ok-next.ensures.words in
-    (c.if-text-gt-MOST-BYTES.false, sym c.loop.invariant ∙ at_end c.loop.words c.next.new.self n)
+    let n = subst (λ o. Next c.loop.words c.next.new.self (Ok o)) c.in_default.is c.in_ok-next.ensures.words in
+    (c.if-text-gt-MOST_BYTES.false, sym c.loop.invariant ∙ at_end c.loop.words c.next.new.self n)
 
-pub returns-in-err-next : goal.returns-in-err-next
-returns-in-err-next c =
+pub returns-in_err-next : goal.returns-in_err-next
+returns-in_err-next c =
     let p = err_from_is_err_and c.from-residual.result c.from-residual.ensures.1 in
-    rw (p.1, p.2) (inr (c.if-text-gt-MOST-BYTES.false, sym c.loop.invariant ∙ at_wrong c.loop.words c.next.new.self _ c.in-err-next.ensures.words))
+    rw (p.1, p.2) (inr (c.if-text-gt-MOST_BYTES.false, sym c.loop.invariant ∙ at_wrong c.loop.words c.next.new.self _ c.in_err-next.ensures.words))
 
 pub loop-init : goal.loop-init
-loop-init c = ap word_fault (begun c.args.text.now c.over-words.result c.if-text-gt-MOST-BYTES.false c.over-words.ensures)
+loop-init c = ap word_fault (begun c.args.text.now c.over-words.result c.if-text-gt-MOST_BYTES.false c.over-words.ensures)

@@ -5,20 +5,20 @@ use Rattle.reader.proofs.Cut.{front-here, front_run, by_colon, equals-here, equa
 use Rattle.reader.proofs.words.calls.front_of.Goals as goal
 use Rattle.reader.proofs.words.calls.front_of.Goals.{else-at-text-via-then-at-text+else-text-at-eq61, else-at-text-via-else-at-text}
 
-pub name-front-requires : goal.name-front-requires
-name-front-requires c = (c.requires, sym c.in-Letter.ensures)
+pub name_front-requires : goal.name_front-requires
+name_front-requires c = (c.requires, sym c.in-Letter.ensures)
 
-pub number-front-requires : goal.number-front-requires
-number-front-requires c = (c.requires, sym c.in-Digit.ensures)
+pub number_front-requires : goal.number_front-requires
+number_front-requires c = (c.requires, sym c.in-Digit.ensures)
 
 pub returns-in-Space : goal.returns-in-Space
 returns-in-Space c = record { front = front-here _ _ c.requires Space c.in-Space.ensures; inside = tt }
 
 pub returns-in-Letter : goal.returns-in-Letter
-returns-in-Letter c = record { front = c.name-front.ensures.front ∙ front_run _ _ c.requires Letter name_front (λ b cs. refl) c.in-Letter.ensures; inside = c.name-front.ensures.inside }
+returns-in-Letter c = record { front = c.name_front.ensures.front ∙ front_run _ _ c.requires Letter name_front (λ b cs. refl) c.in-Letter.ensures; inside = c.name_front.ensures.inside }
 
 pub returns-in-Digit : goal.returns-in-Digit
-returns-in-Digit c = record { front = c.number-front.ensures.front ∙ front_run _ _ c.requires Digit number_front (λ b cs. refl) c.in-Digit.ensures; inside = c.number-front.ensures.inside }
+returns-in-Digit c = record { front = c.number_front.ensures.front ∙ front_run _ _ c.requires Digit number_front (λ b cs. refl) c.in-Digit.ensures; inside = c.number_front.ensures.inside }
 
 pub returns-in-Underscore : goal.returns-in-Underscore
 returns-in-Underscore c = record { front = front-here _ _ c.requires Underscore c.in-Underscore.ensures; inside = tt }

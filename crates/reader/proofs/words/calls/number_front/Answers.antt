@@ -5,9 +5,9 @@ use Rattle.reader.proofs.words.calls.number_front.Goals as goal
 
 pub returns-in-Some : goal.returns-in-Some
 returns-in-Some c = record {
-  front = number_taken c.args.text.now c.args.at _ c.number-len-len.ensures.0 (fits _ _ c.in-Some.ensures);
+  front = number_taken c.args.text.now c.args.at _ c.number_len-len.ensures.0 (fits _ _ c.in-Some.ensures);
   inside = let r = digit_runs c.args.text.now c.args.at c.requires.0 c.requires.1 in omega (arith, r);
 }
 
 pub returns-in-None : goal.returns-in-None
-returns-in-None c = record { front = large_number c.args.text.now c.args.at _ c.number-len-len.ensures.0 (fits_not _ c.in-None.ensures); inside = tt }
+returns-in-None c = record { front = large_number c.args.text.now c.args.at _ c.number_len-len.ensures.0 (fits_not _ c.in-None.ensures); inside = tt }

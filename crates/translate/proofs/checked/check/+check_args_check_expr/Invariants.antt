@@ -1,8 +1,8 @@
 use Rattle.std.proofs.Common.{◌+◌, ◌*◌}
 use Rattle.translate.proofs.checked.check.+check_args_check_expr.Given as goal
 
-abbrev pub decreases-check-args : goal.decreases-check-args
-decreases-check-args l = 4 * l.end
+abbrev pub decreases-check_args : goal.decreases-check_args
+decreases-check_args l = 4 * l.end
 
-abbrev pub decreases-check-expr : goal.decreases-check-expr
-decreases-check-expr l = 4 * l.n + 1
+abbrev pub decreases-check_expr : goal.decreases-check_expr
+decreases-check_expr l = 4 * l.n + 1

@@ -1,5 +1,5 @@
 use Rattle.std.proofs.Common.{◌+◌}
 use Rattle.translate.proofs.checked.write.+write_data.Given as goal
 
-abbrev pub decreases-write-data : goal.decreases-write-data
-decreases-write-data l = l.end
+abbrev pub decreases-write_data : goal.decreases-write_data
+decreases-write_data l = l.end

@@ -1,8 +1,0 @@
-use Rattle.std.proofs.Common.{rules}
-use Rattle.std.proofs.lemmas.Slice.Eq.{slice_eq-Decides, compares_Decides}
-use Rattle.lang.specs.Names.{same_bytes}
-use Rattle.lang.proofs.name.calls.same_bytes.Goals as goal
-use Rattle.std.proofs.lemmas.Bool.Decides.{Decides-eqb}
-
-pub returns : goal.returns
-returns c = let d = slice_eq-Decides Decides-eqb _ _ _ c.eq.ensures in search (rules, compares_Decides same_bytes (search rules))
