@@ -11,7 +11,7 @@ import sys
 
 def main():
     root = os.path.join(sys.argv[1] if len(sys.argv) > 1 else ".", "crates")
-    words = {"in_ok", "in_err", "in_default"}
+    words = {"in_ok", "in_err", "in_default", "from_residual"}
     for folder, dirs, names in os.walk(root):
         dirs[:] = [d for d in dirs if d != "out"]
         for n in names:

@@ -9,7 +9,7 @@ returns-in_err-put g c = λ s.
     let e2 = c.in_ok-open.ensures e1.0 in
     let e3 = c.in_err-put.ensures e2.0 in
     let q = put_refused c.args.n c.args.offset c.args.value (fr c.clear.new.self) (fr c.open.new.self) e1.1 e2.1 e2.2 c.in_err-put.field-0.0 (fr c.put.new.self) e3.1 e3.2 in
-    (e3.0, err_is c.from-residual-in_err-put.result c.in_err-put.field-0.0 c.from-residual-in_err-put.ensures.1 ∙ q.0, q.1)
+    (e3.0, err_is c.from_residual-in_err-put.result c.in_err-put.field-0.0 c.from_residual-in_err-put.ensures.1 ∙ q.0, q.1)
 
 pub returns-in_err-enter : goal.returns-in_err-enter
 returns-in_err-enter g c = λ s.

@@ -24,7 +24,7 @@ returns c =
 
 pub returns-in_err-next : goal.returns-in_err-next
 returns-in_err-next c =
-    let p = err_from_is_err_and c.from-residual.result c.from-residual.ensures.1 in
+    let p = err_from_is_err_and c.from_residual.result c.from_residual.ensures.1 in
     rw (p.1, p.2) (inr (c.if-text-gt-MOST_BYTES.false, sym c.loop.invariant ∙ at_wrong c.loop.words c.next.new.self _ c.in_err-next.ensures.words))
 
 pub loop-init : goal.loop-init
