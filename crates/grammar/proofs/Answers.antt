@@ -129,7 +129,7 @@ free : {k : ℕ} {ws : List Word} {t : Command} → Text k ws t → Text (suc (l
 free {k} {ws} {t} d = from_table (r.free Meant rules (suc (length ws)) (omega arith) (to_table d))
 
 no_seven : (ws q : List Word) (t : Command) → Leaves ws q → Text 0 ws t → ⊥
-no_seven ws q t l d = on q l.split l.no-more
+no_seven ws q t l d = on q l.split l.no_more
   where
     on : (q : List Word) → l.before ++ q ≡ ws → NoMore l.before q → ⊥
     on [] e n = n t (free (subst (λ z. Text 0 z t) (sym e ∙ append_nil l.before) d))
@@ -150,7 +150,7 @@ same-seven ws p q l m = on (part l.before p m.before q (l.split ∙ sym m.split)
   where
     on : Parted l.before p m.before q → p ≡ q
     on (alike a b) = b
-    on (longer w x a b) = absurd (no_further l.before p m.before w x q l.no-more a b m.viable.0 m.viable.1 m.viable.2)
+    on (longer w x a b) = absurd (no_further l.before p m.before w x q l.no_more a b m.viable.0 m.viable.1 m.viable.2)
     on (shorter w x a b) = absurd (no_further m.before q l.before w x p m.no_more a b l.viable.0 l.viable.1 l.viable.2)
 
 -- what begins with too deep a word is too deep
@@ -161,8 +161,8 @@ apart : (ws p q : List Word) → Leaves ws p → TooDeep ws q → ⊥
 apart ws p q l x = on (part l.before p x.before q (l.split ∙ sym x.split))
   where
     on : Parted l.before p x.before q → ⊥
-    on (alike a b) = no_more_at l.before x.word p x.after (b ∙ x.here) l.no-more x.so_far.0 x.so_far.1 (free (subst (λ z. Text (suc (length (x.word ∷ x.so_far.0))) (z ++ x.word ∷ x.so_far.0) x.so_far.1) (sym a) x.so_far.2))
-    on (longer w s a b) = no_further l.before p x.before w s q l.no-more a b (x.word ∷ x.so_far.0) x.so_far.1 x.so_far.2
+    on (alike a b) = no_more_at l.before x.word p x.after (b ∙ x.here) l.no_more x.so_far.0 x.so_far.1 (free (subst (λ z. Text (suc (length (x.word ∷ x.so_far.0))) (z ++ x.word ∷ x.so_far.0) x.so_far.1) (sym a) x.so_far.2))
+    on (longer w s a b) = no_further l.before p x.before w s q l.no_more a b (x.word ∷ x.so_far.0) x.so_far.1 x.so_far.2
     on (shorter w s a b) = deeper ws q x l.before s l.viable.0 (suc (length l.viable.0)) l.viable.1 (subst (λ z. l.before ≡ x.before ++ z ∷ s) (heads w x.word (s ++ p) x.after (sym b ∙ x.here)) a) (omega arith) l.viable.2
 
 same-eight : (ws p q : List Word) → TooDeep ws p → TooDeep ws q → p ≡ q
