@@ -165,18 +165,25 @@ fn view<T: Answers>(heap: Global, memory: &mut T) -> Result<Vec<Answer>, AllocEr
     Ok(seen)
 }
 
-// One call: the answer is the wanted one, and a refused call changes nothing that can be seen.
+// One call to the memory of that name: the answer is the wanted one, and a refused call changes
+// nothing that can be seen.
 fn same_answer<T: Answers>(
     heap: Global,
     memory: &mut T,
+    name: &str,
     call: Call,
     want: Answer,
 ) -> Result<(), Fail> {
     let before = view(heap, memory)?;
-    assert_eq!(memory.answer(call), want);
+    let answer = memory.answer(call);
+    if answer != want {
+        return Err(Fail::new(format_args!("{name}: {call:?}: {answer:?}, not {want:?}")));
+    }
     if let Answer::Refused(_) = want {
         let after = view(heap, memory)?;
-        assert!(before == after, "a refused call changed something");
+        if before != after {
+            return Err(Fail::new(format_args!("{name}: {call:?}: refused, and changed something")));
+        }
     }
     Ok(())
 }
@@ -246,13 +253,13 @@ impl<'c, 'd> Trio<'c, 'd> {
     fn turn(&mut self, call: Call) -> Result<Answer, Fail> {
         let want = self.model.answer(call);
         self.tally.add(want);
-        self.expect(call, want).note(format_args!("{call:?}"))?;
+        self.expect(call, want)?;
         Ok(want)
     }
 
     fn expect(&mut self, call: Call, want: Answer) -> Result<(), Fail> {
-        same_answer(self.heap, &mut self.chain, call, want).note("chain")?;
-        same_answer(self.heap, &mut self.display, call, want).note("display")?;
+        same_answer(self.heap, &mut self.chain, "chain", call, want)?;
+        same_answer(self.heap, &mut self.display, "display", call, want)?;
         self.compare()
     }
 
@@ -260,8 +267,12 @@ impl<'c, 'd> Trio<'c, 'd> {
         let model = view(self.heap, &mut self.model)?;
         let chain = view(self.heap, &mut self.chain)?;
         let display = view(self.heap, &mut self.display)?;
-        assert!(chain == model, "what stands in the chain");
-        assert!(display == model, "what stands in the display");
+        if chain != model {
+            return Err(Fail::new("what stands in the chain"));
+        }
+        if display != model {
+            return Err(Fail::new("what stands in the display"));
+        }
         Ok(())
     }
 
@@ -270,7 +281,9 @@ impl<'c, 'd> Trio<'c, 'd> {
             let Step(times, call, want) = *step;
             for _ in 0..times {
                 let answer = self.turn(call)?;
-                assert_eq!(answer, want, "step {number}");
+                if answer != want {
+                    return Err(Fail::new(format_args!("step {number}: {answer:?}, not {want:?}")));
+                }
             }
         }
         Ok(())
@@ -311,11 +324,21 @@ impl<'c, 'd> Trio<'c, 'd> {
 
     // Each answer came often.
     fn often(&self) -> Result<(), Fail> {
-        assert!(self.tally.done > 2000, "done");
-        assert!(self.tally.frames > 100, "frames");
-        assert!(self.tally.slots > 100, "slots");
-        assert!(self.tally.chain > 100, "chain");
-        assert!(self.tally.none > 100, "none");
+        if self.tally.done <= 2000 {
+            return Err(Fail::new("done"));
+        }
+        if self.tally.frames <= 100 {
+            return Err(Fail::new("frames"));
+        }
+        if self.tally.slots <= 100 {
+            return Err(Fail::new("slots"));
+        }
+        if self.tally.chain <= 100 {
+            return Err(Fail::new("chain"));
+        }
+        if self.tally.none <= 100 {
+            return Err(Fail::new("none"));
+        }
         Ok(())
     }
 
@@ -352,18 +375,18 @@ fn play(heap: Global, steps: &[Step], seed: Option<u64>) -> Result<(), Fail> {
 #[test]
 fn edges_of_frames(rt: HostRuntime) -> Result<(), Fail> {
     let heap = rt.alloc();
-    play(heap, &edges::NO_FRAME, None).note("no frame")?;
-    play(heap, &edges::UNSET, None).note("unset")?;
-    play(heap, &edges::BETWEEN, None).note("between")
+    play(heap, &edges::NO_FRAME, None)?;
+    play(heap, &edges::UNSET, None)?;
+    play(heap, &edges::BETWEEN, None)
 }
 
 #[test]
 fn limits_of_memory(rt: HostRuntime) -> Result<(), Fail> {
     let heap = rt.alloc();
-    play(heap, &limits::FRAMES, None).note("frames")?;
-    play(heap, &limits::SLOTS, None).note("slots")?;
-    play(heap, &limits::CHAIN, None).note("chain")?;
-    play(heap, &limits::TOGETHER, None).note("together")
+    play(heap, &limits::FRAMES, None)?;
+    play(heap, &limits::SLOTS, None)?;
+    play(heap, &limits::CHAIN, None)?;
+    play(heap, &limits::TOGETHER, None)
 }
 
 // Lengths of parents, levels, starts and slots: too short for both memories.
