@@ -5,7 +5,6 @@ use runner::listing::listing;
 use runner::owned::{judge_over_chain, judge_over_display};
 use runner::report::report;
 use std::alloc::Global;
-use std::process::Abort;
 use std::test::Fail;
 
 // The report of a text over the static chain.
@@ -23,57 +22,61 @@ fn display_report(heap: Global, text: &[u8]) -> Result<String, Fail> {
 }
 
 // Both reports are what is wanted.
-fn expect(rt: &impl Abort, heap: Global, text: &[u8], want: &str) -> Result<(), Fail> {
+fn expect(heap: Global, text: &[u8], want: &str) -> Result<(), Fail> {
     let chain = chain_report(heap, text)?;
-    assert_eq!(rt; chain.as_str(), want);
+    if chain.as_str() != want {
+        return Err(Fail::new(format_args!("chain: {}, not {want}", chain.as_str())));
+    }
     let display = display_report(heap, text)?;
-    assert_eq!(rt; display.as_str(), want);
-    Ok(())
-}
-
-fn expect_plain(rt: &impl Abort, heap: Global, cases: &[(&str, &str)]) -> Result<(), Fail> {
-    for (text, want) in cases {
-        expect(rt, heap, text.as_bytes(), want)?;
+    if display.as_str() != want {
+        return Err(Fail::new(format_args!("display: {}, not {want}", display.as_str())));
     }
     Ok(())
 }
 
-fn expect_built(rt: &impl Abort, heap: Global, cases: &[Case]) -> Result<(), Fail> {
+fn expect_plain(heap: Global, cases: &[(&str, &str)]) -> Result<(), Fail> {
+    for (text, want) in cases {
+        expect(heap, text.as_bytes(), want)?;
+    }
+    Ok(())
+}
+
+fn expect_built(heap: Global, cases: &[Case]) -> Result<(), Fail> {
     for case in cases {
         let text = case.text(heap)?;
-        expect(rt, heap, text.as_slice(), case.want)?;
+        expect(heap, text.as_slice(), case.want)?;
     }
     Ok(())
 }
 
 #[test]
 fn worked_examples(rt: HostRuntime) -> Result<(), Fail> {
-    expect_plain(&rt, rt.alloc(), &examples::PLAIN)?;
-    expect_built(&rt, rt.alloc(), &examples::BUILT)
+    expect_plain(rt.alloc(), &examples::PLAIN)?;
+    expect_built(rt.alloc(), &examples::BUILT)
 }
 
 #[test]
 fn words_at_their_edges(rt: HostRuntime) -> Result<(), Fail> {
-    expect_plain(&rt, rt.alloc(), &words::PLAIN)?;
-    expect_built(&rt, rt.alloc(), &words::BUILT)
+    expect_plain(rt.alloc(), &words::PLAIN)?;
+    expect_built(rt.alloc(), &words::BUILT)
 }
 
 #[test]
 fn grammar_at_its_edges(rt: HostRuntime) -> Result<(), Fail> {
-    expect_plain(&rt, rt.alloc(), &grammar::PLAIN)?;
-    expect_built(&rt, rt.alloc(), &grammar::BUILT)
+    expect_plain(rt.alloc(), &grammar::PLAIN)?;
+    expect_built(rt.alloc(), &grammar::BUILT)
 }
 
 #[test]
 fn names_at_their_edges(rt: HostRuntime) -> Result<(), Fail> {
-    expect_plain(&rt, rt.alloc(), &names::PLAIN)?;
-    expect_built(&rt, rt.alloc(), &names::BUILT)
+    expect_plain(rt.alloc(), &names::PLAIN)?;
+    expect_built(rt.alloc(), &names::BUILT)
 }
 
 #[test]
 fn faults_at_their_edges(rt: HostRuntime) -> Result<(), Fail> {
-    expect_plain(&rt, rt.alloc(), &faults::PLAIN)?;
-    expect_built(&rt, rt.alloc(), &faults::BUILT)
+    expect_plain(rt.alloc(), &faults::PLAIN)?;
+    expect_built(rt.alloc(), &faults::BUILT)
 }
 
 // What becomes of a text of one byte: a space, a letter and an opening brace want more, the other marks and digits
@@ -92,7 +95,7 @@ fn one_byte(b: u8) -> &'static str {
 fn every_byte(rt: HostRuntime) -> Result<(), Fail> {
     let heap = rt.alloc();
     for b in 0..=255u8 {
-        expect(&rt, heap, &[b], one_byte(b))?;
+        expect(heap, &[b], one_byte(b))?;
     }
     Ok(())
 }
