@@ -1,5 +1,5 @@
 -- frames that lie in starts and slots, whatever keeps their parents
-use Rattle.std.proofs.Common.{◌≡◌, ℕ, zero, suc, ◌+◌, ◌-◌, ◌<◌, ◌≤◌, true, false, cond, eqb, ltb, leb, ◌≢◌, ◌⊎◌, List, [], ◌++◌, length, get_or, take, drop, set, replicate, is_some, Some, None, Ok, Option, sym, refl, ap, ◌∙◌, subst, ⊎_elim, add-one, arith}
+use Rattle.std.proofs.Common.{◌≡◌, ℕ, zero, suc, ◌+◌, ◌-◌, ◌<◌, ◌≤◌, true, false, cond, eqb, ltb, leb, ◌≢◌, List, [], ◌++◌, length, get_or, take, drop, set, replicate, is_some, Some, None, Ok, Option, sym, refl, ap, ◌∙◌, subst, ⊎_elim, add-one, arith}
 use Rattle.std.proofs.lemmas.Bool.{cases_lt, cond-true, cond-false, lt-ltb, le-ltb, lt-leb}
 use lib.Seq.{take-set-lt}
 use Rattle.std.proofs.lemmas.Slice.{between_is}
@@ -10,7 +10,7 @@ use Rattle.std.proofs.lemmas.Bool.Decides.{nat_tests}
 use Rattle.lang.specs.declared.value.Slot.{Slot}
 use Rattle.lang.specs.declared.value.Slot.TheVariants.{Unset}
 use Rattle.lang.specs.declared.refusal.Refusal.TheVariants.{NoSuchSlot, TooManyFrames, TooManySlots, ChainTooDeep}
-use Rattle.frames.specs.Frames.{Frames, none, ◌▷◌, count, total, newest, up_to, walk, asked, last_slot, last_width, width, Built, refused, done, stands, deep, fresh, grown, filled, filled_in, written_from, written}
+use Rattle.frames.specs.Frames.{Frames, none, ◌▷◌, count, total, newest, up_to, walk, asked, last_slot, last_width, width, Built, refused, done, stands, deep, fresh, grown, filled, filled_in, written_from}
 use Rattle.frames.specs.Layout.{before, laid, frame_at, rises, end_of, Within, Earlier, Inside, part, Placed, frames_in, LaidOut, Room}
 use Rattle.frames.specs.declared.slots.FrameSlots.{FrameSlots}
 use Rattle.frames.specs.Chains.{single}

@@ -12,7 +12,7 @@ use Rattle.lang.specs.declared.word.Kind.{Kind}
 use Rattle.lang.specs.declared.refusal.Refusal.{Refusal}
 use Rattle.lang.specs.declared.refusal.Refusal.TheVariants.{Unexpected, NestTooDeep}
 use Rattle.grammar.specs.Words.{Word}
-use Rattle.grammar.specs.Machine.{Part, tok, line, leave, depth, Means, Alts, word, Out, fine, bad, nothing}
+use Rattle.grammar.specs.Machine.{Part, tok, line, leave, depth, Means, Alts, Out, fine, bad, nothing}
 use Rattle.grammar.proofs.Stepper.{Step, take, stop, pass, at, shift, ending, finish, run}
 use Rattle.grammar.proofs.Derive.{Goal, parts, alts, Meant, D, nil, a_tok, a_line, a_leave, here-empty, here-word, here-line, here_enter, later_word, later_line, is_depth}
 use Rattle.grammar.proofs.Back.{Backs, Stack, Any, back, Ended, ended}

@@ -1,5 +1,5 @@
 -- Entries that are told, sought and added.
-use Rattle.std.proofs.Common.{◌≡◌, ℕ, zero, suc, ◌+◌, ◌<◌, ◌≤◌, Bool, true, false, cond, ◌||◌, leb, List, [], ◌∷◌, ◌++◌, length, get_or, take, drop, set, Some, None, Option, sym, refl, ap, ◌∙◌, suc-add, arith}
+use Rattle.std.proofs.Common.{◌≡◌, ℕ, zero, suc, ◌+◌, ◌<◌, ◌≤◌, true, false, cond, ◌||◌, leb, List, [], ◌∷◌, ◌++◌, length, get_or, drop, set, Some, None, Option, sym, refl, ap, ◌∙◌, suc-add, arith}
 use Rattle.std.proofs.lemmas.Bool.{cond-false, lt-leb}
 use Rattle.std.specs.List.{slice_get}
 use Rattle.std.proofs.lemmas.List.{drop_all}
@@ -7,9 +7,8 @@ use Rattle.lang.specs.declared.name.Name.{Name}
 use Rattle.lang.specs.declared.value.Value.{Value}
 use Rattle.lang.specs.declared.sheet.Entry.{Entry}
 use Rattle.lang.specs.declared.sheet.Described.{Described}
-use Rattle.lang.specs.Names.{same}
 use Rattle.lang.specs.Values.{alike}
-use Rattle.lang.specs.Sheets.{named, named_at, told_at, told_value, with_value, valued, sheet_after, sheet_from, added, added_to, entry_of}
+use Rattle.lang.specs.Sheets.{named, named_at, told_at, told_value, with_value, valued, sheet_after, added, added_to, entry_of}
 use Rattle.lang.proofs.Scans.{drop-next}
 
 pub told_some : (es : List Entry) (i : ℕ) (e : Entry) (v : Value) → Some e ≡ slice_get es i → true ≡ alike e.value v → told_value es i (Some v) ≡ Some (set es i (with_value e v))

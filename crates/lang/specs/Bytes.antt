@@ -1,6 +1,5 @@
 -- The class of each byte.
-use Rattle.std.specs.Prelude.{ℕ, ◌<◌, ◌≤◌, Bool, true, false, cond, ◌&&◌, ◌==◌, nat_le}
-use Rattle.lang.specs.declared.word.Kind.{Kind}
+use Rattle.std.specs.Prelude.{ℕ, Bool, true, false, cond, ◌&&◌, ◌==◌, nat_le}
 use Rattle.lang.specs.declared.word.Kind.TheVariants.{OpenBrace, CloseBrace, Open, Close, Semicolon, Comma, Equal, Less, Plus, Minus, Times}
 use Rattle.lang.specs.declared.word.Class.{Class}
 use Rattle.lang.specs.declared.word.Class.TheVariants.{Space, Letter, Digit, Underscore, Colon, Mark, Other}

@@ -1,6 +1,5 @@
 -- The number of each instruction and its three operands, as the code table lists them.
 use Rattle.std.specs.Prelude.{ℕ, zero, suc, true, false, List, [], ◌∷◌, ℤ, pos, negsuc}
-use Rattle.lang.specs.declared.value.Value.{Value}
 use Rattle.lang.specs.declared.value.Value.TheVariants.{Number, Truth}
 use Rattle.lang.specs.declared.instruction.Binding.TheVariants.{Constant, Variable}
 use Rattle.lang.specs.declared.instruction.Instruction.{Instruction}

@@ -1,5 +1,5 @@
 -- Names as bytes.
-use Rattle.std.specs.Prelude.{ℕ, zero, suc, ◌-◌, Bool, true, false, ◌&&◌, List, [], ◌∷◌, ◌==◌}
+use Rattle.std.specs.Prelude.{ℕ, zero, suc, Bool, true, false, ◌&&◌, List, [], ◌∷◌, ◌==◌}
 use Rattle.lang.specs.declared.name.Name.{Name}
 
 -- whether two lists of bytes are equal

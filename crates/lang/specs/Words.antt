@@ -1,5 +1,5 @@
 -- The reserved words.
-use Rattle.std.specs.Prelude.{ℕ, Bool, true, false, cond, List, codes}
+use Rattle.std.specs.Prelude.{ℕ, cond, List, codes}
 use Rattle.lang.specs.Names.{same_bytes}
 use Rattle.lang.specs.declared.word.Kind.{Kind}
 use Rattle.lang.specs.declared.word.Kind.TheVariants.{Name, Call, If, Then, Else, While, Do, Const, Var, Fun, Proc, Let, In, Or, And, Not, True, False}

@@ -17,10 +17,10 @@ use Rattle.meaning.specs.Tree.{Command}
 use Rattle.meaning.specs.Limits.{most_steps}
 use Rattle.meaning.specs.Violations.{violations}
 use Rattle.meaning.specs.Translation.{Code, translated}
-use Rattle.meaning.specs.Machine.{Machine, Next, go, stop, ended, stuck, after, goes}
+use Rattle.meaning.specs.Machine.{Machine, go, ended, after, goes}
 use Rattle.meaning.specs.Meaning.{Store, Answer, ok, fault, value_at}
 use Rattle.meaning.specs.Runs.{Outcome as End, done, faulty, Ending, ending, ran, meaning, start, sheet_frames, entries_after, entry}
-use Rattle.meaning.specs.Agreement.{fault_at, end_at, answer, finished, Leaves, RunsAs}
+use Rattle.meaning.specs.Agreement.{fault_at, end_at, answer, finished, Leaves}
 use Rattle.meaning.proofs.Whole.{code_means_lem, runs_end_lem}
 use Rattle.machine.specs.declared.outcome.Outcome.{Outcome}
 use Rattle.machine.specs.declared.outcome.Outcome.TheVariants as outcome

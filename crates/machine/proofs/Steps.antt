@@ -1,7 +1,6 @@
 -- Code on paper by position, and runs of the machine on paper.
-use Rattle.std.proofs.Common.{◌≡◌, ℕ, zero, suc, ◌+◌, ◌-◌, ◌<◌, ◌≤◌, List, [], ◌∷◌, length, Some, None, Option, sym, refl, ap, ◌∙◌, arith}
+use Rattle.std.proofs.Common.{◌≡◌, ℕ, zero, suc, ◌+◌, ◌-◌, ◌<◌, ◌≤◌, [], ◌∷◌, length, Some, None, sym, refl, ap, ◌∙◌, arith}
 use Rattle.std.specs.List.{slice_get}
-use Rattle.lang.specs.declared.fault.Fault.{Fault}
 use Rattle.lang.specs.declared.instruction.Instruction.{Instruction}
 use Rattle.meaning.specs.Tree.{Place}
 use Rattle.meaning.specs.Translation.{Code, instructions}

@@ -5,7 +5,6 @@ use lib.ListN.{length-map, length-replicate}
 use Rattle.lang.specs.declared.name.Name.{Name}
 use Rattle.lang.specs.declared.value.Value.{Value}
 use Rattle.lang.specs.declared.value.Slot.{Slot}
-use Rattle.lang.specs.declared.value.Slot.TheVariants as slot
 use Rattle.lang.specs.Values.{slot_of, alike}
 use Rattle.lang.specs.declared.fault.Fault.TheVariants as fault
 use Rattle.lang.specs.declared.refusal.Refusal.TheVariants.{WrongCount}
@@ -21,7 +20,7 @@ use Rattle.meaning.specs.Meaning.{Answer, ok, Run, bind, Meant, a_value, a_locat
 use Rattle.meaning.specs.Uses.{uses_e, uses_a, uses_d, uses_c, uses_s, uses_r}
 use Rattle.meaning.specs.Pairs.{sort_of, names, scope_of}
 use Rattle.meaning.proofs.Basics.{from_true, cons_nil, nil_left, nil_right, append_nil, length_snoc, value-slot}
-use Rattle.meaning.proofs.Shades.{Cell, blank, fixed, located, show, Shades, ◌▸◌, shade, height, slots, last, down, out, cell_at, shown, height-shown, slots-shown, last-shown, got_shown, whole, out_part, down-last}
+use Rattle.meaning.proofs.Shades.{Cell, blank, fixed, located, show, Shades, ◌▸◌, shade, height, last, down, out, cell_at, shown, height-shown, slots-shown, last-shown, got_shown, whole, out_part, down-last}
 use Rattle.meaning.proofs.Pieces.{Text, At, at_tail, at_end, at_length, split_e, split_a, split_d, split_c, split_s, split_r}
 use Rattle.meaning.proofs.Meets.{mach, Visible, Meets, now, After, went, meets_bind, meets_map, meets_at, after_is, meets_line, meets_use, after_unless, after_branch, after-grown}
 use Rattle.meaning.proofs.Chains.{room_of, Fits, Matches, Chain, Seen, seen, chain_stand, chain_deep, last_of}

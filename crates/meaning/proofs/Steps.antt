@@ -19,7 +19,7 @@ use Rattle.meaning.specs.Tree.{Place, Sign, minus, negate, Operator, add, sub, m
 use Rattle.meaning.specs.Limits.{most_steps, most_frames, most_slots, most_values, most_returns}
 use Rattle.meaning.specs.Operators.{Worked, ranged, worked, conjoined, disjoined, with_sign}
 use Rattle.meaning.specs.Translation.{Code}
-use Rattle.meaning.specs.Machine.{Machine, Next, go, stop, ended, stuck, failed, on, pushed, loaded_value, loaded, gives, on_one, on_two, branched, fault_of, refused_by, answered, built, filling, stored_over, stored_in, storing, moved, called_at, called, returned, act, counted, fetched, step, after}
+use Rattle.meaning.specs.Machine.{Machine, Next, go, stop, ended, stuck, failed, on, pushed, loaded_value, loaded, gives, on_one, on_two, branched, fault_of, refused_by, answered, built, filling, stored_over, stored_in, storing, moved, called_at, called, returned, act, counted, fetched, step}
 use Rattle.meaning.specs.Agreement.{fault_at, Shallow, Within}
 use Rattle.meaning.proofs.Depth.{Older, whole, walk_older, grown_shallow, filled-count, filled_shallow}
 

@@ -1,5 +1,5 @@
 -- Cutting a text into words.
-use Rattle.std.proofs.Common.{◌≡◌, ℕ, zero, suc, ◌+◌, ◌-◌, ◌<◌, ◌≤◌, Bool, true, false, cond, eqb, leb, List, [], ◌∷◌, length, get_or, take, drop, sym, refl, ap, ◌∙◌, add-zero, add-one, arith, length-drop, drop_of_length-le, drop-cons, drop-drop, eq-eqb, ne_eqb, le-leb}
+use Rattle.std.proofs.Common.{◌≡◌, ℕ, zero, suc, ◌+◌, ◌-◌, ◌<◌, ◌≤◌, Bool, true, false, cond, List, [], ◌∷◌, length, get_or, take, drop, sym, refl, ap, ◌∙◌, add-zero, add-one, arith, drop_of_length-le, drop-cons, drop-drop, eq-eqb, ne_eqb, le-leb}
 use borrow.Author.Tests.{lt-leb}
 use Rattle.lang.specs.declared.word.Kind.{Kind}
 use Rattle.lang.specs.declared.word.Kind.TheVariants.{Becomes, Number}
@@ -12,7 +12,7 @@ use Rattle.lang.specs.Words.{reserved}
 use Rattle.reader.specs.declared.words.Front.{Front}
 use Rattle.reader.specs.declared.words.Front.TheVariants.{Blank, Takes, Wrong}
 use Rattle.reader.specs.Numbers.{decimal, fitting}
-use Rattle.reader.specs.Words.{run, name_front, number_front, front_as, front, equals_next, Lexed, lexed, end, word, wrong}
+use Rattle.reader.specs.Words.{run, name_front, number_front, front_as, front, equals_next, Lexed, lexed, word, wrong}
 
 -- one byte more of a run
 pub run_more : (t : ℕ → Bool) (bs : List ℕ) (i : ℕ) → i < length bs → t (get_or bs i 0) ≡ true → run t (drop i bs) ≡ suc (run t (drop (i + 1) bs))

@@ -1,5 +1,5 @@
 -- There is less to read after a word.
-use Rattle.std.proofs.Common.{◌≡◌, ◌<◌, ◌≤◌, Bool, true, false, not, length, is_some, Some, None, Ok, Option, ap, arith}
+use Rattle.std.proofs.Common.{◌≡◌, ◌<◌, ◌≤◌, false, not, length, is_some, Some, None, Ok, Option, ap, arith}
 use borrow.Author.Tests.{clash}
 use Rattle.reader.specs.declared.words.Word.{Word}
 use Rattle.reader.specs.declared.words.Words.{Words}

@@ -1,5 +1,5 @@
 -- The first byte of no word, as it is looked for.
-use Rattle.std.proofs.Common.{◌≡◌, ℕ, ◌≤◌, List, length, drop, Some, None, Ok, Err, sym, refl, ap, ◌∙◌}
+use Rattle.std.proofs.Common.{◌≡◌, ℕ, ◌≤◌, List, length, drop, Some, None, Ok, Err, sym, ap, ◌∙◌}
 use Rattle.std.proofs.lemmas.List.{take_all}
 use Rattle.lang.specs.declared.refusal.Refused.{Refused}
 use Rattle.reader.specs.declared.words.Word.{Word}

@@ -1,5 +1,5 @@
 -- The table of nodes.
-use Rattle.std.specs.Prelude.{◌≡◌, ℕ, suc, ◌+◌, ◌<◌, ◌≤◌, Bool, cond, List, length, replicate, pos, nat_le, nat_lt, slice_set}
+use Rattle.std.specs.Prelude.{◌≡◌, ℕ, ◌+◌, cond, List, length, replicate, pos, nat_le, nat_lt, slice_set}
 use Rattle.lang.specs.declared.name.Name.{Name}
 use Rattle.reader.specs.declared.node.Label.TheVariants.{Number}
 use Rattle.reader.specs.declared.node.Param.{Param}

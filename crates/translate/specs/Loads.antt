@@ -2,7 +2,6 @@
 use Rattle.std.specs.Prelude.{◌≡◌, ℕ, [], length, replicate, Ok, Err, Result}
 use Rattle.lang.specs.declared.code.Code.{Code}
 use Rattle.lang.specs.declared.refusal.Refused.{Refused}
-use Rattle.lang.specs.declared.name.Name.{Name}
 use Rattle.lang.specs.declared.stack.Stack.{Stack}
 use Rattle.lang.specs.Codes.{instructions_of}
 use Rattle.lang.specs.Stacks.{held, room}

@@ -1,4 +1,4 @@
-use Rattle.std.proofs.Common.{◌≡◌, ◌<◌, length, ap, ◌∙◌, arith}
+use Rattle.std.proofs.Common.{◌<◌, length, ap, ◌∙◌, arith}
 use Rattle.lang.specs.Sheets.{entries_of, valued}
 use Rattle.frames.specs.Frames.{got}
 use Rattle.machine.specs.Shows.{value_got}

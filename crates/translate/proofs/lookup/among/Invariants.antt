@@ -1,4 +1,3 @@
-use Rattle.std.proofs.Common.{◌-◌}
 use Rattle.translate.proofs.lookup.among.Given as goal
 
 abbrev pub decreases-loop-at : goal.decreases-loop-at

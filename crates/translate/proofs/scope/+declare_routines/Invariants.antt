@@ -1,4 +1,3 @@
-use Rattle.std.proofs.Common.{◌+◌}
 use Rattle.translate.proofs.scope.+declare_routines.Given as goal
 
 abbrev pub decreases-declare_routines : goal.decreases-declare_routines

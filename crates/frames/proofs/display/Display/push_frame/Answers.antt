@@ -1,4 +1,4 @@
-use Rattle.std.proofs.Common.{◌≡◌, ℕ, ◌+◌, ◌<◌, ◌≤◌, length, sym, ap, ◌∙◌, subst, arith}
+use Rattle.std.proofs.Common.{◌≡◌, ℕ, ◌+◌, ◌<◌, ◌≤◌, sym, ap, ◌∙◌, subst, arith}
 use Rattle.frames.specs.declared.slots.FrameSlots.{FrameSlots}
 use Rattle.frames.specs.Frames.{◌▷◌, fresh, deep}
 use Rattle.frames.specs.Layout.{Earlier, Within, before, frames_in, LaidOut}

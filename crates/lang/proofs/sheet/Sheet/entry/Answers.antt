@@ -1,8 +1,7 @@
-use Rattle.std.proofs.Common.{◌≡◌, length, sym, ◌∙◌, ⊎_elim, arith}
+use Rattle.std.proofs.Common.{sym, ◌∙◌, ⊎_elim, arith}
 use borrow.Author.Tests.{clash}
 use Rattle.std.proofs.lemmas.Option.{slice_get-get_or}
-use Rattle.lang.specs.Sheets.{entries_of}
-use Rattle.lang.proofs.Held.{nth_take, nth_taken, nth_past, nth_short}
+use Rattle.lang.proofs.Held.{nth_take, nth_taken, nth_short}
 use Rattle.lang.proofs.sheet.Sheet.entry.Goals as goal
 
 pub returns-then-number-table : goal.returns-then-number-table

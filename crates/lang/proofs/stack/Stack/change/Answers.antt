@@ -1,4 +1,4 @@
-use Rattle.std.proofs.Common.{◌≡◌, sym, refl, ap, ◌∙◌, arith, length-set}
+use Rattle.std.proofs.Common.{sym, refl, arith, length-set}
 use Rattle.lang.specs.Stacks.{held}
 use Rattle.lang.proofs.Held.{take_of_set, set_past}
 use Rattle.lang.proofs.stack.Stack.change.Goals as goal

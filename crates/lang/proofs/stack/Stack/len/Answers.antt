@@ -1,4 +1,4 @@
-use Rattle.std.proofs.Common.{◌≤◌, length, take, sym, refl, ap, arith}
+use Rattle.std.proofs.Common.{length, sym, refl, ap, arith}
 use Rattle.std.proofs.lemmas.List.{length-take-le, take_all}
 use Rattle.lang.proofs.stack.Stack.len.Goals as goal
 

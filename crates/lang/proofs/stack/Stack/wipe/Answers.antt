@@ -1,4 +1,4 @@
-use Rattle.std.proofs.Common.{◌≡◌, ◌<◌, [], reverse, length, take, sym, ap, ◌∙◌, arith, length-set}
+use Rattle.std.proofs.Common.{◌≡◌, [], reverse, length, take, ap, ◌∙◌, arith, length-set}
 use Rattle.lang.specs.Stacks.{held}
 use Rattle.lang.proofs.Held.{take_none, wiped_more, wiped_all}
 use Rattle.lang.proofs.stack.Stack.wipe.Goals as goal

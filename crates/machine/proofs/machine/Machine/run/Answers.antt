@@ -1,5 +1,5 @@
 use Rattle.std.proofs.Common.{◌≡◌, ◌+◌, ◌-◌, ◌<◌, ◌≤◌, length, sym, refl, ap, ◌∙◌, arith}
-use Rattle.meaning.specs.Machine.{go, stop, stuck, goes}
+use Rattle.meaning.specs.Machine.{stop, stuck, goes}
 use Rattle.machine.specs.Shows.{seen}
 use Rattle.machine.proofs.Steps.{goes_none, goes_then, goes_on, told}
 use Rattle.machine.proofs.machine.Machine.run.Goals as goal

@@ -1,7 +1,5 @@
 use Rattle.std.proofs.Common.{◌≡◌, ℕ, ◌≤◌, Some, sym, refl, ap, ◌∙◌, arith}
 use Rattle.std.specs.List.{slice_get}
-use Rattle.lang.specs.Codes.{instructions_of, places_of}
-use Rattle.meaning.specs.Tree.{Place}
 use Rattle.machine.specs.Shows.{seen}
 use Rattle.machine.proofs.Steps.{none_at, some_at, step_of, step_past}
 use Rattle.machine.proofs.machine.Machine.step.Goals as goal

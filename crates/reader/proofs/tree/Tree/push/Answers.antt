@@ -1,4 +1,4 @@
-use Rattle.std.proofs.Common.{◌≡◌, cond, ltb, set, ap, ◌∙◌, arith}
+use Rattle.std.proofs.Common.{ap, ◌∙◌, arith}
 use Rattle.reader.specs.Nodes.{nodes_of}
 use Rattle.reader.proofs.Table.{stored_in_lem, stored_past, stored_out, counted_in, counted_past}
 use Rattle.reader.proofs.tree.Tree.push.Goals.{then-at-self+then-at-lt-MOST_NODES, else-at-self, else-at-self-via-then-at-self+else-at-lt-MOST_NODES, else-at-self-via-else-at-self}

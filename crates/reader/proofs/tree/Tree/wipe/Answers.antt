@@ -1,4 +1,4 @@
-use Rattle.std.proofs.Common.{◌≡◌, ◌<◌, ◌≤◌, length, ◌∙◌, arith, length-set}
+use Rattle.std.proofs.Common.{◌<◌, ◌≤◌, length, ◌∙◌, arith, length-set}
 use Rattle.reader.specs.Nodes.{blank, nodes_of, node_room}
 use Rattle.reader.proofs.Table.{wiped_more, wiped_all}
 use Rattle.reader.proofs.tree.Tree.wipe.Goals as goal

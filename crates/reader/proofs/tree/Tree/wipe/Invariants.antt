@@ -1,4 +1,4 @@
-use Rattle.std.proofs.Common.{◌≡◌, ℕ, ◌<◌, length, get_or}
+use Rattle.std.proofs.Common.{◌≡◌, ℕ, ◌<◌, get_or}
 use Rattle.reader.specs.Nodes.{blank, nodes_of, node_room}
 use Rattle.reader.proofs.tree.Tree.wipe.Given as goal
 

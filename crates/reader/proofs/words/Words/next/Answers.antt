@@ -1,6 +1,5 @@
-use Rattle.std.proofs.Common.{◌≡◌, ◌+◌, length, take, drop, sym, refl, ap, ◌∙◌, arith, drop_of_length-le}
-use Rattle.reader.specs.Lexing.{unlexed}
-use Rattle.reader.specs.Words.{lexed, word}
+use Rattle.std.proofs.Common.{ap, ◌∙◌, arith, drop_of_length-le}
+use Rattle.reader.specs.Words.{lexed}
 use Rattle.reader.proofs.Cut.{blank_step, wrong-step, takes_step}
 use Rattle.reader.proofs.words.Words.next.Goals as goal
 

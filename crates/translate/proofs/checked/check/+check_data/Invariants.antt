@@ -1,4 +1,3 @@
-use Rattle.std.proofs.Common.{◌+◌}
 use Rattle.translate.proofs.checked.check.+check_data.Given as goal
 
 abbrev pub decreases-check_data : goal.decreases-check_data

@@ -1,4 +1,3 @@
-use Rattle.std.proofs.Common.{◌+◌}
 use Rattle.translate.proofs.checked.write.+write_data.Given as goal
 
 abbrev pub decreases-write_data : goal.decreases-write_data
