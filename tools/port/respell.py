@@ -20,7 +20,7 @@ USE = re.compile(r"^\s*(?:ghost )?use ([^\s{;]+?)\.?\{(.*)\}", re.S)
 MADE = re.compile(r"^(returns|loop|invariant|decreases|then|else|in|if)-|-requires$|^(returns|inv)$")
 # library words that may stand beside a dash
 WORDS = {"length", "append", "take", "drop", "set", "map", "reverse", "get_or", "slice_get", "slice_set", "replicate"}
-# read wrongly by the first script: a line of the grammar, not a type
+# a line of the grammar, which the first script took for a type; a law that would have the name of what it is about
 FIXED = {"Expr-line": "expr_line", "stored-in": "stored_in_lem"}
 
 

@@ -170,6 +170,7 @@ fn view<T: Answers>(heap: Global, memory: &mut T) -> Result<Vec<Answer>, AllocEr
 fn same_answer<T: Answers>(
     heap: Global,
     memory: &mut T,
+    trial: &str,
     name: &str,
     call: Call,
     want: Answer,
@@ -177,12 +178,14 @@ fn same_answer<T: Answers>(
     let before = view(heap, memory)?;
     let answer = memory.answer(call);
     if answer != want {
-        return Err(Fail::new(format_args!("{name}: {call:?}: {answer:?}, not {want:?}")));
+        return Err(Fail::new(format_args!("{trial}: {name}: {call:?}: {answer:?}, not {want:?}")));
     }
     if let Answer::Refused(_) = want {
         let after = view(heap, memory)?;
         if before != after {
-            return Err(Fail::new(format_args!("{name}: {call:?}: refused, and changed something")));
+            return Err(Fail::new(format_args!(
+                "{trial}: {name}: {call:?}: refused, and changed something"
+            )));
         }
     }
     Ok(())
@@ -221,9 +224,10 @@ const MIXTURES: [(u32, usize, usize, u64); 5] = [
     (1500, 20, 60, 9),
 ];
 
-// The chain, the display and the model side by side.
+// The chain, the display and the model side by side, in the trial of that name.
 #[derive(Drop)]
 struct Trio<'c, 'd> {
+    trial: &'static str,
     heap: Global,
     chain: Chain<'c>,
     display: Display<'d>,
@@ -232,7 +236,12 @@ struct Trio<'c, 'd> {
 }
 
 impl<'c, 'd> Trio<'c, 'd> {
-    fn new(heap: Global, chain: Chain<'c>, display: Display<'d>) -> Trio<'c, 'd> {
+    fn new(
+        trial: &'static str,
+        heap: Global,
+        chain: Chain<'c>,
+        display: Display<'d>,
+    ) -> Trio<'c, 'd> {
         let tally = Tally {
             done: 0,
             frames: 0,
@@ -241,6 +250,7 @@ impl<'c, 'd> Trio<'c, 'd> {
             none: 0,
         };
         Trio {
+            trial,
             heap,
             chain,
             display,
@@ -258,20 +268,23 @@ impl<'c, 'd> Trio<'c, 'd> {
     }
 
     fn expect(&mut self, call: Call, want: Answer) -> Result<(), Fail> {
-        same_answer(self.heap, &mut self.chain, "chain", call, want)?;
-        same_answer(self.heap, &mut self.display, "display", call, want)?;
-        self.compare()
+        let trial = self.trial;
+        same_answer(self.heap, &mut self.chain, trial, "chain", call, want)?;
+        same_answer(self.heap, &mut self.display, trial, "display", call, want)?;
+        self.compare(Some(call))
     }
 
-    fn compare(&mut self) -> Result<(), Fail> {
+    // The same stands in all three after the call, or before the first.
+    fn compare(&mut self, call: Option<Call>) -> Result<(), Fail> {
+        let trial = self.trial;
         let model = view(self.heap, &mut self.model)?;
         let chain = view(self.heap, &mut self.chain)?;
         let display = view(self.heap, &mut self.display)?;
         if chain != model {
-            return Err(Fail::new("what stands in the chain"));
+            return Err(Fail::new(format_args!("{trial}: {call:?}: what stands in the chain")));
         }
         if display != model {
-            return Err(Fail::new("what stands in the display"));
+            return Err(Fail::new(format_args!("{trial}: {call:?}: what stands in the display")));
         }
         Ok(())
     }
@@ -282,7 +295,10 @@ impl<'c, 'd> Trio<'c, 'd> {
             for _ in 0..times {
                 let answer = self.turn(call)?;
                 if answer != want {
-                    return Err(Fail::new(format_args!("step {number}: {answer:?}, not {want:?}")));
+                    let trial = self.trial;
+                    return Err(Fail::new(format_args!(
+                        "{trial}: step {number}: {answer:?}, not {want:?}"
+                    )));
                 }
             }
         }
@@ -353,8 +369,8 @@ impl<'c, 'd> Trio<'c, 'd> {
     }
 }
 
-// All three over dirty memory.
-fn play(heap: Global, steps: &[Step], seed: Option<u64>) -> Result<(), Fail> {
+// All three over dirty memory, in the trial of that name.
+fn play(trial: &'static str, heap: Global, steps: &[Step], seed: Option<u64>) -> Result<(), Fail> {
     let (mut links, mut starts, mut slots) = lent(heap, 256)?;
     let chain = Chain::over(
         links.as_mut_slice(),
@@ -367,26 +383,26 @@ fn play(heap: Global, steps: &[Step], seed: Option<u64>) -> Result<(), Fail> {
         starts.as_mut_slice(),
         slots.as_mut_slice(),
     )?;
-    let mut trio = Trio::new(heap, chain, display);
-    trio.compare()?;
+    let mut trio = Trio::new(trial, heap, chain, display);
+    trio.compare(None)?;
     trio.follow(steps, seed)
 }
 
 #[test]
 fn edges_of_frames(rt: HostRuntime) -> Result<(), Fail> {
     let heap = rt.alloc();
-    play(heap, &edges::NO_FRAME, None)?;
-    play(heap, &edges::UNSET, None)?;
-    play(heap, &edges::BETWEEN, None)
+    play("no frame", heap, &edges::NO_FRAME, None)?;
+    play("unset", heap, &edges::UNSET, None)?;
+    play("between", heap, &edges::BETWEEN, None)
 }
 
 #[test]
 fn limits_of_memory(rt: HostRuntime) -> Result<(), Fail> {
     let heap = rt.alloc();
-    play(heap, &limits::FRAMES, None)?;
-    play(heap, &limits::SLOTS, None)?;
-    play(heap, &limits::CHAIN, None)?;
-    play(heap, &limits::TOGETHER, None)
+    play("frames", heap, &limits::FRAMES, None)?;
+    play("slots", heap, &limits::SLOTS, None)?;
+    play("chain", heap, &limits::CHAIN, None)?;
+    play("together", heap, &limits::TOGETHER, None)
 }
 
 // Lengths of parents, levels, starts and slots: too short for both memories.
@@ -417,5 +433,10 @@ fn short_memory(rt: HostRuntime) -> Result<(), Fail> {
 
 #[test]
 fn calls_from_a_counter(rt: HostRuntime) -> Result<(), Fail> {
-    play(rt.alloc(), &edges::BETWEEN, Some(2024))
+    play(
+        "calls from a counter",
+        rt.alloc(),
+        &edges::BETWEEN,
+        Some(2024),
+    )
 }

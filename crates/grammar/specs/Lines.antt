@@ -1,5 +1,5 @@
 -- The machine line by line, as a reader with one function for each line goes: each law holds for whatever is to come after the line.
-use Rattle.std.specs.Prelude.{◌<◌, ◌≡◌, Bool, true, false, cond, ◌↔◌, leb, List, [], ◌∷◌}
+use Rattle.std.specs.Prelude.{◌<◌, ◌≡◌, Bool, true, false, cond, ◌↔◌, nat_le, List, [], ◌∷◌}
 use Rattle.lang.specs.declared.word.Kind.{Kind}
 use Rattle.lang.specs.declared.refusal.Refusal.TheVariants.{Unexpected, NestTooDeep}
 use Rattle.lang.specs.Kinds.{same_kind}
@@ -23,7 +23,7 @@ onward ws ps f = run Meant rules ws ps f
 
 -- the machine after the word w
 abbrev pub after : (w : Word) (ws : List Word) (ps : List (Part Row)) → (Means Meant ps → Command) → Out Command
-after w ws ps f = cond (leb (depth ps) 64) (onward ws ps f) (bad NestTooDeep (w ∷ ws))
+after w ws ps f = cond (nat_le (depth ps) 64) (onward ws ps f) (bad NestTooDeep (w ∷ ws))
 
 -- a word that has to come is there, or another is, or there is none
 pub record HasToCome (j : Kind) (ps : List (Part Row)) (f : Means Meant (tok j ∷ ps) → Command) : Type 0 where

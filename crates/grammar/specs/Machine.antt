@@ -1,5 +1,5 @@
 -- A stack machine on words for every table of lines: what a word does to the parts that are still to come.
-use Rattle.std.specs.Prelude.{cond, List, [], ◌∷◌, ◌++◌, ℕ, suc, leb}
+use Rattle.std.specs.Prelude.{cond, List, [], ◌∷◌, ◌++◌, ℕ, suc, nat_le}
 use Rattle.std.proofs.Math.Option.{Option, some, none}
 use Rattle.lang.specs.declared.word.Kind.{Kind}
 use Rattle.lang.specs.declared.refusal.Refusal.{Refusal}
@@ -95,4 +95,4 @@ module _ {L : Type 0} (V : L → Type 0) where
     -- the machine: the parts ps are to come, and f says what all means then
     abbrev pub run : {T : Type 0} (ws : List Word) (ps : List (Part L)) → (Means V ps → T) → Out T
     run [] ps f = end ps f
-    run (w ∷ ws) ps f = next w (λ qs g. cond (leb (depth qs) 64) (run ws qs g) (bad NestTooDeep (w ∷ ws))) (w ∷ ws) ps f
+    run (w ∷ ws) ps f = next w (λ qs g. cond (nat_le (depth qs) 64) (run ws qs g) (bad NestTooDeep (w ∷ ws))) (w ∷ ws) ps f

@@ -83,7 +83,7 @@ module _ (t : Text) where
   abbrev pub RightC : Runs → (ℕ → Type 0) → Command → Type 0
   RightC eval early c = (env : Env) (st : Store) (w : Shades) (vs : List Value) (rs : List ℕ) (i j s : ℕ) → early s → length rs < height w → wrong_c (scope_of env) c ≡ [] → At t i (code_c (scope_of env) c) (uses_c (scope_of env) c) j → Chain t env w → Sound st w → Meets t (LandsC w j vs rs s) (mach i vs rs (shown st w) s) (eval c env st (room_of w vs) s)
 
-  module _ (cs : Calls) (rn : Runs) (n : ℕ) (hE : (e : Expr) → Right t cs (λ s. (most_steps < n + s) × (s ≤ most_steps)) e) (hC : (c : Command) → RightC rn (λ s. (most_steps < n + s) × (s ≤ most_steps)) c) where
+  module _ (cs : Calls) (rn : Runs) (n : ℕ) (h_e : (e : Expr) → Right t cs (λ s. (most_steps < n + s) × (s ≤ most_steps)) e) (h_c : (c : Command) → RightC rn (λ s. (most_steps < n + s) × (s ≤ most_steps)) c) where
     abbrev GoodC : Command → Type 0
     GoodC c = RightC (eval_c cs rn) (λ s. most_steps ≤ n + s) c
 
@@ -106,7 +106,7 @@ module _ (t : Text) where
     unfolding code_c uses_c eval_c wrong_c
     assign_good p z e env st w vs rs i j s b q g a c d =
         let x = split_e t (scope_of env) e a in
-        meets_value t _ (good t cs n hE e env st w vs rs i x.0 s b q (nil_right _ _ g) x.1 c) λ v u l. meets_use t _ env st (variable-visible p _ (nil_left _ _ g)) (chain_stand t st env w c) x.2 λ l'.
+        meets_value t _ (good t cs n h_e e env st w vs rs i x.0 s b q (nil_right _ _ g) x.1 c) λ v u l. meets_use t _ env st (variable-visible p _ (nil_left _ _ g)) (chain_stand t st env w c) x.2 λ l'.
         write_good st w vs v rs x.0 j p s (u + 1) (lookup z env) (find z (scope_of env)) (omega arith) (at_end t (at_tail t x.2)) d (seen t z env w c) (nil_left _ _ g)
 
     enter_good : (st : Store) (w : Shades) (us vs : List Value) (rs : List ℕ) (i j p y m s u : ℕ) (r : Option (Meant × Env)) (o : Option Use) → most_steps ≤ n + s → s < u → u ≤ most_steps → length rs < height w → i + 1 ≡ j → length us ≡ m → Sound st w → Seen t w r o → as_procedure y m o ≡ []
@@ -128,14 +128,14 @@ module _ (t : Text) where
             let up : Chain t d.1 (down (last (out o.hops w)) w) = subst (Chain t d.1) (sym (down-last (out_part o.hops w))) x.4 in
             let long : length ps ≡ length (map fixed us) = fits ∙ sym (length-map us fixed) in
             after-called t st w out-is.0 out-is.1 d.1 us vs rs i p m u o.hops o.offset f.0 _ (got_shown st w o.hops o.offset x.1 x.2 ∙ ap (λ (c : Cell). Ok (show st c)) f.2) out-is.2 x.4 f.4 k q
-            (rw long (meets_store _ (hC c (given ps us ∷ d.1) st (w ▸ shade (map fixed us) (last (out o.hops w))) vs ((i + 1) ∷ rs) f.0 body.0 u (omega arith, l') (omega arith) (rw same_names f.5) (rw same_names body.1) (given-cells t _ ps us, up) (sound_more st (map fixed us) (last (out o.hops w)) w (λ l. occ_fixed l us) z)) λ st₂ u₂ l₂ d₂. meets_line t _ body.2 λ _. went
+            (rw long (meets_store _ (h_c c (given ps us ∷ d.1) st (w ▸ shade (map fixed us) (last (out o.hops w))) vs ((i + 1) ∷ rs) f.0 body.0 u (omega arith, l') (omega arith) (rw same_names f.5) (rw same_names body.1) (given-cells t _ ps us, up) (sound_more st (map fixed us) (last (out o.hops w)) w (λ l. occ_fixed l us) z)) λ st₂ u₂ l₂ d₂. meets_line t _ body.2 λ _. went
             (landing_c _ ends (omega arith) (sound_left st₂ (shade (map fixed us) (last (out o.hops w))) w d₂))))
 
     perform_good : (p y : Place) (z : Name) (es : Args) → GoodC (perform p y z es)
     unfolding code_c code_a uses_c uses_a eval_c eval_a wrong_c wrong_a
     perform_good p y z es env st w vs rs i j s b q g a c d =
         let x = split_a t (scope_of env) es a in
-        meets_args t _ (good_a t cs n hE es env st w vs rs i x.0 s b q (nil_right _ _ g) x.1 c) λ us u l k. meets_use t _ env st (procedure-visible y (args es) _ (nil_left _ _ g)) (chain_stand t st env w c) x.2 λ l'.
+        meets_args t _ (good_a t cs n h_e es env st w vs rs i x.0 s b q (nil_right _ _ g) x.1 c) λ us u l k. meets_use t _ env st (procedure-visible y (args es) _ (nil_left _ _ g)) (chain_stand t st env w c) x.2 λ l'.
         enter_good st w us vs rs x.0 j p y (args es) s (u + 1) (lookup z env) (find z (scope_of env)) b (omega arith) (omega arith) q (at_end t (at_tail t x.2)) k d (seen t z env w c) (nil_left _ _ g)
 
     fork_good : (p : Place) (e : Expr) (c₁ c₂ : Command) → GoodC c₁ → GoodC c₂ → GoodC (fork p e c₁ c₂)
@@ -146,7 +146,7 @@ module _ (t : Text) where
         let ends = at_length t (at_tail t y.2) in
         let mid = at_length t y.1 in
         let gs = nil_right (wrong_e (scope_of env) e) _ g in
-        meets_value t _ (good t cs n hE e env st w vs rs i x.0 s b q (nil_left _ _ g) x.1 c) λ v u l. meets_line t _ x.2 λ _. after_branch t x.0 _ v p _
+        meets_value t _ (good t cs n h_e e env st w vs rs i x.0 s b q (nil_left _ _ g) x.1 c) λ v u l. meets_line t _ x.2 λ _. after_branch t x.0 _ v p _
         (meets_store _ (E env st w vs rs (x.0 + 1) y.0 (u + 1) (omega arith) q (nil_left _ _ gs) y.1 c d) λ st₂ u' l' d'. meets_line t _ y.2 λ _. went (landing_c _ (omega arith) (omega arith) d'))
         (meets_at t (omega arith) (weaker_c (omega arith) (F env st w vs rs (y.0 + 1) j (u + 1) (omega arith) q (nil_right _ _ gs) (at_tail t y.2) c d)))
 
@@ -158,8 +158,8 @@ module _ (t : Text) where
         let begin = at_length t x.1 in
         let mid = at_length t y.1 in
         let ends = at_end t (at_tail t y.2) in
-        meets_value t _ (good t cs n hE e env st w vs rs i x.0 s b q (nil_left _ _ g) x.1 c) λ v u l. meets_line t _ x.2 λ _. after_branch t x.0 _ v p _
-        (meets_store _ (E env st w vs rs (x.0 + 1) y.0 (u + 1) (omega arith) q (nil_right _ _ g) y.1 c d) λ st₂ u' l' d'. meets_line t _ y.2 λ l₂. went (meets_at t (omega arith) (weaker_c (omega arith) (hC (while p e c₁) env st₂ w vs rs i j (u' + 1) (omega arith, omega arith) q g a c d'))))
+        meets_value t _ (good t cs n h_e e env st w vs rs i x.0 s b q (nil_left _ _ g) x.1 c) λ v u l. meets_line t _ x.2 λ _. after_branch t x.0 _ v p _
+        (meets_store _ (E env st w vs rs (x.0 + 1) y.0 (u + 1) (omega arith) q (nil_right _ _ g) y.1 c d) λ st₂ u' l' d'. meets_line t _ y.2 λ l₂. went (meets_at t (omega arith) (weaker_c (omega arith) (h_c (while p e c₁) env st₂ w vs rs i j (u' + 1) (omega arith, omega arith) q g a c d'))))
         (landing_c _ (omega arith) (omega arith) d)
 
     abbrev GoodS : Commands → Type 0
@@ -184,7 +184,7 @@ module _ (t : Text) where
         let W : Shades = w ▸ shade (cl ++ (blank ∷ replicate k blank)) P in
         let room : room_of W vs ≡ inside N (room_of w vs) = room_in w (cl ++ (blank ∷ replicate k blank)) P vs N (let x = length-append cl (blank ∷ replicate k blank) in let y = length-replicate k blank in omega arith) in
         meets_value t _ (subst (λ (r : Room). Meets t (Lands j vs rs (shown st W) s) (mach i vs rs (shown st W) s) (eval_e cs e (bs ∷ env) st r s)) room
-        (good t cs n hE e (bs ∷ env) st W vs rs i j s b q (subst (λ (ns : Names). wrong_e (ns ∷ scope_of env) e ≡ []) (sym ns) g) (subst (λ (ns : Names). At t i (code_e (ns ∷ scope_of env) e) (uses_e (ns ∷ scope_of env) e) j) (sym ns) a) (plain_matches t _ bs cl (blank ∷ replicate k blank) pl, c))) h
+        (good t cs n h_e e (bs ∷ env) st W vs rs i j s b q (subst (λ (ns : Names). wrong_e (ns ∷ scope_of env) e ≡ []) (sym ns) g) (subst (λ (ns : Names). At t i (code_e (ns ∷ scope_of env) e) (uses_e (ns ∷ scope_of env) e) j) (sym ns) a) (plain_matches t _ bs cl (blank ∷ replicate k blank) pl, c))) h
 
     filled-shown : (st : Store) (w : Shades) (cl es : List Cell) (c : Cell) (v : Value) (P : Option ℕ) (o : ℕ) → o ≡ length cl → show st c ≡ slot_of v → shown st w ▷ filled (record { slots = map (show st) (cl ++ (blank ∷ es)); parent = P }) o (slot_of v) ≡ shown st (w ▸ shade ((cl ++ (c ∷ [])) ++ es) P)
     filled-shown st w cl es c v P o e f = ap (λ (ss : List Slot). shown st w ▷ record { slots = ss; parent = P }) (ap₂ (λ (n : ℕ) (x : Slot). set (map (show st) (cl ++ (blank ∷ es))) n x) e (sym f) ∙ fill_cells st cl es c)

@@ -18,7 +18,7 @@ use Rattle.meaning.specs.Machine.{Machine, Next, stuck, failed, loaded, fault_of
 use Rattle.meaning.specs.Runs.{start}
 use Rattle.meaning.specs.Agreement.{looking, asks, Serves, ServesAll, FramesServe}
 use Rattle.meaning.proofs.Basics.{ltb_true, nth_below}
-use Rattle.meaning.proofs.Whole.{runs_cut_lem, never_stuck}
+use Rattle.meaning.proofs.Whole.{runs_cut_lem, never_stuck_lem}
 
 -- a refusal that is no fault is stuck
 refused_serves : (e : Refusal) (p : Place) (m : Machine) → (refused_by (fault_of e) p m ≡ stuck → ⊥) → Serves (Err e)
@@ -147,4 +147,4 @@ frames_serve_lem es c g k m i p e l at = act_serves i p (counted m) moves
     acts = ap (λ (o : Option (Instruction × Place)). fetched o m) at ∙ ap (λ (b : Bool). cond b (act i p (counted m)) (failed fault.Steps p m)) (ltb_true m.steps most_steps l)
 
     moves : act i p (counted m) ≡ stuck → ⊥
-    moves q = never_stuck es c g (k + 1) (runs_cut_lem (translated es c) k 1 (start es) ∙ ap (λ (n : Next). after n (goes (translated es c) 1)) e ∙ ap (λ (n : Next). after n (goes (translated es c) 0)) (acts ∙ q))
+    moves q = never_stuck_lem es c g (k + 1) (runs_cut_lem (translated es c) k 1 (start es) ∙ ap (λ (n : Next). after n (goes (translated es c) 1)) e ∙ ap (λ (n : Next). after n (goes (translated es c) 0)) (acts ∙ q))

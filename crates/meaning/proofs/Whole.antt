@@ -281,8 +281,8 @@ answer_stays : (code : Code) (o : Outcome) (t k : ℕ) → after (answer o t) (g
 answer_stays code (done es) t k = refl
 answer_stays code (faulty f p) t k = refl
 
-pub never_stuck : NeverStuck
-never_stuck es c g k e = by (leb (end_at o s) k) refl
+pub never_stuck_lem : NeverStuck
+never_stuck_lem es c g k e = by (leb (end_at o s) k) refl
   where
     o : Outcome
     o = (meaning es c).outcome

@@ -22,7 +22,7 @@ impl<'t> Reader<'t> {
     }
 
     // command: block | assignment | call | if | while
-    #[cycle(block_choice_command_commands_form_procedure_repeat_routine_routines)]
+    #[cycle(command_lines)]
     pub fn command(&mut self, tree: &mut Tree) -> Result<(), Refused>
         ensures read { Gone self.old self.new result }
         ensures kept { Kept tree.old tree.new }
@@ -34,7 +34,7 @@ impl<'t> Reader<'t> {
     }
 
     // What a command is, by its first word.
-    #[cycle(block_choice_command_commands_form_procedure_repeat_routine_routines)]
+    #[cycle(command_lines)]
     fn form(&mut self, tree: &mut Tree) -> Result<(), Refused>
         ensures read { Gone self.old self.new result }
         ensures kept { Kept tree.old tree.new }
@@ -82,7 +82,7 @@ impl<'t> Reader<'t> {
     }
 
     // 'if' expr 'then' command 'else' command
-    #[cycle(block_choice_command_commands_form_procedure_repeat_routine_routines)]
+    #[cycle(command_lines)]
     fn choice(&mut self, tree: &mut Tree) -> Result<(), Refused>
         ensures read { Gone self.old self.new result }
         ensures kept { Kept tree.old tree.new }
@@ -100,7 +100,7 @@ impl<'t> Reader<'t> {
     }
 
     // 'while' expr 'do' command
-    #[cycle(block_choice_command_commands_form_procedure_repeat_routine_routines)]
+    #[cycle(command_lines)]
     fn repeat(&mut self, tree: &mut Tree) -> Result<(), Refused>
         ensures read { Gone self.old self.new result }
         ensures kept { Kept tree.old tree.new }
@@ -116,7 +116,7 @@ impl<'t> Reader<'t> {
     }
 
     // block: '{' datum.. routine.. command.. '}'
-    #[cycle(block_choice_command_commands_form_procedure_repeat_routine_routines)]
+    #[cycle(command_lines)]
     fn block(&mut self, tree: &mut Tree) -> Result<(), Refused>
         ensures read { Gone self.old self.new result }
         ensures kept { Kept tree.old tree.new }
@@ -135,7 +135,7 @@ impl<'t> Reader<'t> {
     }
 
     // routine..: how many slots there are with these.
-    #[cycle(block_choice_command_commands_form_procedure_repeat_routine_routines)]
+    #[cycle(command_lines)]
     fn routines(&mut self, tree: &mut Tree, data: u16) -> Result<u16, Refused>
         ensures read { Lists self.old self.new result }
         ensures kept { Kept tree.old tree.new }
@@ -154,7 +154,7 @@ impl<'t> Reader<'t> {
     }
 
     // What a routine is, by its first word.
-    #[cycle(block_choice_command_commands_form_procedure_repeat_routine_routines)]
+    #[cycle(command_lines)]
     fn routine(&mut self, tree: &mut Tree, slot: u16) -> Result<(), Refused>
         ensures read { Gone self.old self.new result }
         ensures kept { Kept tree.old tree.new }
@@ -181,7 +181,7 @@ impl<'t> Reader<'t> {
     }
 
     // 'proc' name '(' names ')' command
-    #[cycle(block_choice_command_commands_form_procedure_repeat_routine_routines)]
+    #[cycle(command_lines)]
     fn procedure(&mut self, tree: &mut Tree, slot: u16) -> Result<(), Refused>
         ensures read { Gone self.old self.new result }
         ensures kept { Kept tree.old tree.new }
@@ -197,7 +197,7 @@ impl<'t> Reader<'t> {
     }
 
     // command..
-    #[cycle(block_choice_command_commands_form_procedure_repeat_routine_routines)]
+    #[cycle(command_lines)]
     fn commands(&mut self, tree: &mut Tree) -> Result<(), Refused>
         ensures read { Lists self.old self.new result }
         ensures kept { Kept tree.old tree.new }

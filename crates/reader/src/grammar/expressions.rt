@@ -11,7 +11,7 @@ use lang::word::Kind;
 
 impl<'t> Reader<'t> {
     // expr: 'if' expr 'then' expr 'else' expr | 'let' name '=' expr 'in' expr | either
-    #[cycle(args_atom_bind_both_brackets_call_choose_compared_either_expr_named_atom_prefix_product_signed_sum_test_unary_whole)]
+    #[cycle(expression_lines)]
     pub fn expr(&mut self, tree: &mut Tree) -> Result<(), Refused>
         ensures read { Gone self.old self.new result }
         ensures kept { Kept tree.old tree.new }
@@ -23,7 +23,7 @@ impl<'t> Reader<'t> {
     }
 
     // What an expression is, by its first word.
-    #[cycle(args_atom_bind_both_brackets_call_choose_compared_either_expr_named_atom_prefix_product_signed_sum_test_unary_whole)]
+    #[cycle(expression_lines)]
     fn whole(&mut self, tree: &mut Tree) -> Result<(), Refused>
         ensures read { Gone self.old self.new result }
         ensures kept { Kept tree.old tree.new }
@@ -38,7 +38,7 @@ impl<'t> Reader<'t> {
     }
 
     // 'if' expr 'then' expr 'else' expr
-    #[cycle(args_atom_bind_both_brackets_call_choose_compared_either_expr_named_atom_prefix_product_signed_sum_test_unary_whole)]
+    #[cycle(expression_lines)]
     fn choose(&mut self, tree: &mut Tree) -> Result<(), Refused>
         ensures read { Gone self.old self.new result }
         ensures kept { Kept tree.old tree.new }
@@ -56,7 +56,7 @@ impl<'t> Reader<'t> {
     }
 
     // 'let' name '=' expr 'in' expr
-    #[cycle(args_atom_bind_both_brackets_call_choose_compared_either_expr_named_atom_prefix_product_signed_sum_test_unary_whole)]
+    #[cycle(expression_lines)]
     fn bind(&mut self, tree: &mut Tree) -> Result<(), Refused>
         ensures read { Gone self.old self.new result }
         ensures kept { Kept tree.old tree.new }
@@ -74,7 +74,7 @@ impl<'t> Reader<'t> {
     }
 
     // prefix: '-' prefix | 'not' prefix | atom
-    #[cycle(args_atom_bind_both_brackets_call_choose_compared_either_expr_named_atom_prefix_product_signed_sum_test_unary_whole)]
+    #[cycle(expression_lines)]
     pub fn prefix(&mut self, tree: &mut Tree) -> Result<(), Refused>
         ensures read { Gone self.old self.new result }
         ensures kept { Kept tree.old tree.new }
@@ -86,7 +86,7 @@ impl<'t> Reader<'t> {
     }
 
     // What a prefix is, by its first word.
-    #[cycle(args_atom_bind_both_brackets_call_choose_compared_either_expr_named_atom_prefix_product_signed_sum_test_unary_whole)]
+    #[cycle(expression_lines)]
     fn signed(&mut self, tree: &mut Tree) -> Result<(), Refused>
         ensures read { Gone self.old self.new result }
         ensures kept { Kept tree.old tree.new }
@@ -101,7 +101,7 @@ impl<'t> Reader<'t> {
     }
 
     // A sign and what it stands before.
-    #[cycle(args_atom_bind_both_brackets_call_choose_compared_either_expr_named_atom_prefix_product_signed_sum_test_unary_whole)]
+    #[cycle(expression_lines)]
     fn unary(&mut self, tree: &mut Tree, sign: Kind, label: Label) -> Result<(), Refused>
         ensures read { Gone self.old self.new result }
         ensures kept { Kept tree.old tree.new }
@@ -115,7 +115,7 @@ impl<'t> Reader<'t> {
     }
 
     // atom: number | 'true' | 'false' | name | name '(' args ')' | '(' expr ')'
-    #[cycle(args_atom_bind_both_brackets_call_choose_compared_either_expr_named_atom_prefix_product_signed_sum_test_unary_whole)]
+    #[cycle(expression_lines)]
     fn atom(&mut self, tree: &mut Tree) -> Result<(), Refused>
         ensures read { Gone self.old self.new result }
         ensures kept { Kept tree.old tree.new }
@@ -169,7 +169,7 @@ impl<'t> Reader<'t> {
     }
 
     // '(' expr ')'
-    #[cycle(args_atom_bind_both_brackets_call_choose_compared_either_expr_named_atom_prefix_product_signed_sum_test_unary_whole)]
+    #[cycle(expression_lines)]
     fn brackets(&mut self, tree: &mut Tree) -> Result<(), Refused>
         ensures read { Gone self.old self.new result }
         ensures kept { Kept tree.old tree.new }
@@ -180,7 +180,7 @@ impl<'t> Reader<'t> {
     }
 
     // name | name '(' args ')'
-    #[cycle(args_atom_bind_both_brackets_call_choose_compared_either_expr_named_atom_prefix_product_signed_sum_test_unary_whole)]
+    #[cycle(expression_lines)]
     fn named_atom(&mut self, tree: &mut Tree) -> Result<(), Refused>
         ensures read { Gone self.old self.new result }
         ensures kept { Kept tree.old tree.new }
@@ -195,7 +195,7 @@ impl<'t> Reader<'t> {
     }
 
     // '(' args ')' of a name that is called
-    #[cycle(args_atom_bind_both_brackets_call_choose_compared_either_expr_named_atom_prefix_product_signed_sum_test_unary_whole)]
+    #[cycle(expression_lines)]
     pub fn call(
         &mut self,
         tree: &mut Tree,
@@ -217,7 +217,7 @@ impl<'t> Reader<'t> {
     }
 
     // A comma list of expressions, up to its ')'; how many there are.
-    #[cycle(args_atom_bind_both_brackets_call_choose_compared_either_expr_named_atom_prefix_product_signed_sum_test_unary_whole)]
+    #[cycle(expression_lines)]
     fn args(&mut self, tree: &mut Tree) -> Result<u16, Refused>
         ensures read { Lists self.old self.new result }
         ensures kept { Kept tree.old tree.new }

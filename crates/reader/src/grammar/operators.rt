@@ -11,7 +11,7 @@ use lang::word::Kind;
 // Operators group to the left. An operator's place is that of the first word of its left side, brackets too.
 impl<'t> Reader<'t> {
     // either: both ('or' both)..
-    #[cycle(args_atom_bind_both_brackets_call_choose_compared_either_expr_named_atom_prefix_product_signed_sum_test_unary_whole)]
+    #[cycle(expression_lines)]
     pub fn either(&mut self, tree: &mut Tree) -> Result<(), Refused>
         ensures read { Gone self.old self.new result }
         ensures kept { Kept tree.old tree.new }
@@ -28,7 +28,7 @@ impl<'t> Reader<'t> {
     }
 
     // both: test ('and' test)..
-    #[cycle(args_atom_bind_both_brackets_call_choose_compared_either_expr_named_atom_prefix_product_signed_sum_test_unary_whole)]
+    #[cycle(expression_lines)]
     fn both(&mut self, tree: &mut Tree) -> Result<(), Refused>
         ensures read { Gone self.old self.new result }
         ensures kept { Kept tree.old tree.new }
@@ -45,7 +45,7 @@ impl<'t> Reader<'t> {
     }
 
     // test: sum | sum '=' sum | sum '<' sum
-    #[cycle(args_atom_bind_both_brackets_call_choose_compared_either_expr_named_atom_prefix_product_signed_sum_test_unary_whole)]
+    #[cycle(expression_lines)]
     fn test(&mut self, tree: &mut Tree) -> Result<(), Refused>
         ensures read { Gone self.old self.new result }
         ensures kept { Kept tree.old tree.new }
@@ -63,7 +63,7 @@ impl<'t> Reader<'t> {
     }
 
     // The sign of a comparison and its right side.
-    #[cycle(args_atom_bind_both_brackets_call_choose_compared_either_expr_named_atom_prefix_product_signed_sum_test_unary_whole)]
+    #[cycle(expression_lines)]
     fn compared(
         &mut self,
         tree: &mut Tree,
@@ -81,7 +81,7 @@ impl<'t> Reader<'t> {
     }
 
     // sum: product (('+' | '-') product)..
-    #[cycle(args_atom_bind_both_brackets_call_choose_compared_either_expr_named_atom_prefix_product_signed_sum_test_unary_whole)]
+    #[cycle(expression_lines)]
     fn sum(&mut self, tree: &mut Tree) -> Result<(), Refused>
         ensures read { Gone self.old self.new result }
         ensures kept { Kept tree.old tree.new }
@@ -109,7 +109,7 @@ impl<'t> Reader<'t> {
     }
 
     // product: prefix ('*' prefix)..
-    #[cycle(args_atom_bind_both_brackets_call_choose_compared_either_expr_named_atom_prefix_product_signed_sum_test_unary_whole)]
+    #[cycle(expression_lines)]
     fn product(&mut self, tree: &mut Tree) -> Result<(), Refused>
         ensures read { Gone self.old self.new result }
         ensures kept { Kept tree.old tree.new }

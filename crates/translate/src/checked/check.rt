@@ -41,7 +41,7 @@ pub fn check<'a, 'm>(
 }
 
 // The names of the expression at a node, where `depth` frames stand.
-#[cycle(check_args_check_expr)]
+#[cycle(expression_checks)]
 fn check_expr(
     tree: &Tree,
     n: usize,
@@ -95,7 +95,7 @@ fn check_expr(
 }
 
 // The args among the nodes from `start` up to `end`.
-#[cycle(check_args_check_expr)]
+#[cycle(expression_checks)]
 fn check_args(
     tree: &Tree,
     start: usize,
@@ -148,7 +148,7 @@ fn check_data(
     )
 }
 
-#[cycle(check_body_check_command_check_commands_check_routines)]
+#[cycle(command_checks)]
 fn check_command(
     tree: &Tree,
     n: usize,
@@ -207,7 +207,7 @@ fn check_command(
 }
 
 // The commands among the nodes from `start` up to `end`.
-#[cycle(check_body_check_command_check_commands_check_routines)]
+#[cycle(command_checks)]
 fn check_commands(
     tree: &Tree,
     start: usize,
@@ -229,7 +229,7 @@ fn check_commands(
 }
 
 // The bodies of the routines among the nodes from `start` up to `end`.
-#[cycle(check_body_check_command_check_commands_check_routines)]
+#[cycle(command_checks)]
 fn check_routines(
     tree: &Tree,
     start: usize,
@@ -254,7 +254,7 @@ fn check_routines(
 }
 
 // A routine's parameters and its body.
-#[cycle(check_body_check_command_check_commands_check_routines)]
+#[cycle(command_checks)]
 fn check_body(
     tree: &Tree,
     r: Routine,

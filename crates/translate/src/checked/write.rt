@@ -63,7 +63,7 @@ fn distance(code: &Code, from: usize) -> u16 {
     short(code.len().saturating_sub(from))
 }
 
-#[cycle(write_args_write_expr)]
+#[cycle(expression_code)]
 fn write_expr(tree: &Tree, n: usize, depth: usize, names: &mut Stack<Record>, code: &mut Code)
     ensures names { room names.new ≡ room names.old }
     ensures code { SameRoom code.old code.new }
@@ -151,7 +151,7 @@ fn write_expr(tree: &Tree, n: usize, depth: usize, names: &mut Stack<Record>, co
     }
 }
 
-#[cycle(write_args_write_expr)]
+#[cycle(expression_code)]
 fn write_args(
     tree: &Tree,
     start: usize,
@@ -222,7 +222,7 @@ fn write_datum(tree: &Tree, d: Datum, depth: usize, names: &mut Stack<Record>, c
     );
 }
 
-#[cycle(write_command_write_commands_write_routine_write_routines)]
+#[cycle(command_code)]
 fn write_command(tree: &Tree, n: usize, depth: usize, names: &mut Stack<Record>, code: &mut Code)
     ensures names { room names.new ≡ room names.old }
     ensures code { SameRoom code.old code.new }
@@ -309,7 +309,7 @@ fn write_command(tree: &Tree, n: usize, depth: usize, names: &mut Stack<Record>,
     }
 }
 
-#[cycle(write_command_write_commands_write_routine_write_routines)]
+#[cycle(command_code)]
 fn write_commands(
     tree: &Tree,
     start: usize,
@@ -331,7 +331,7 @@ fn write_commands(
     write_command(tree, n, depth, names, code);
 }
 
-#[cycle(write_command_write_commands_write_routine_write_routines)]
+#[cycle(command_code)]
 fn write_routines(
     tree: &Tree,
     start: usize,
@@ -364,7 +364,7 @@ fn declares(r: Routine, by: u16) -> Instruction {
     }
 }
 
-#[cycle(write_command_write_commands_write_routine_write_routines)]
+#[cycle(command_code)]
 fn write_routine(tree: &Tree, r: Routine, depth: usize, names: &mut Stack<Record>, code: &mut Code)
     ensures names { room names.new ≡ room names.old }
     ensures code { SameRoom code.old code.new }

@@ -1,5 +1,5 @@
 use Rattle.std.proofs.Common.{◌+◌, ◌*◌}
-use Rattle.translate.proofs.checked.write.+write_command_write_commands_write_routine_write_routines.Given as goal
+use Rattle.translate.proofs.checked.write.+command_code.Given as goal
 
 abbrev pub decreases-write_command : goal.decreases-write_command
 decreases-write_command l = 4 * l.n + 1

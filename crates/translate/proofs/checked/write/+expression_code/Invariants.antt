@@ -1,5 +1,5 @@
 use Rattle.std.proofs.Common.{◌+◌, ◌*◌}
-use Rattle.translate.proofs.checked.write.+write_args_write_expr.Given as goal
+use Rattle.translate.proofs.checked.write.+expression_code.Given as goal
 
 abbrev pub decreases-write_args : goal.decreases-write_args
 decreases-write_args l = 4 * l.end

@@ -1,6 +1,6 @@
 use Rattle.std.proofs.Common.{◌+◌, ◌*◌}
 use Rattle.reader.specs.Looking.{unread, Went, Kept}
-use Rattle.reader.proofs.grammar.Reader.+block_choice_command_commands_form_procedure_repeat_routine_routines.Given as goal
+use Rattle.reader.proofs.grammar.Reader.+command_lines.Given as goal
 
 abbrev pub decreases-block : goal.decreases-block
 decreases-block l = 4 * unread l.self.now + 0

@@ -1,5 +1,5 @@
 use Rattle.std.proofs.Common.{◌+◌, ◌*◌}
-use Rattle.translate.proofs.checked.check.+check_body_check_command_check_commands_check_routines.Given as goal
+use Rattle.translate.proofs.checked.check.+command_checks.Given as goal
 
 abbrev pub decreases-check_command : goal.decreases-check_command
 decreases-check_command l = 4 * l.n + 1

@@ -1,5 +1,5 @@
 use Rattle.std.proofs.Common.{◌+◌, ◌*◌}
-use Rattle.translate.proofs.checked.check.+check_args_check_expr.Given as goal
+use Rattle.translate.proofs.checked.check.+expression_checks.Given as goal
 
 abbrev pub decreases-check_args : goal.decreases-check_args
 decreases-check_args l = 4 * l.end

@@ -1,6 +1,6 @@
 use Rattle.std.proofs.Common.{◌+◌, ◌*◌}
 use Rattle.reader.specs.Looking.{unread, Went, Kept}
-use Rattle.reader.proofs.grammar.Reader.+args_atom_bind_both_brackets_call_choose_compared_either_expr_named_atom_prefix_product_signed_sum_test_unary_whole.Given as goal
+use Rattle.reader.proofs.grammar.Reader.+expression_lines.Given as goal
 
 abbrev pub decreases-args : goal.decreases-args
 decreases-args l = 12 * unread l.self.now + 11
