@@ -1,7 +1,7 @@
 #!/usr/bin/env python3
 """Brings the repository's own definitions and lemmas to today's spelling: words in snake case, types and facts in camel case.
 
-usage: python3 tools/port/respell.py [ROOT]      run once, right after /opt/rattle/port/port.py
+usage: python3 tools/port/respell.py [ROOT]      run once, right after the kit's script port.py
 
 A definition, constructor, field or lemma `fooBar` or `foo-bar` becomes `foo_bar`. In a lemma a dash stays only between two names of
 definitions, as in `walk-part`. A type `Foo-bar` becomes `FooBar`. Names that Rattle makes, names of the library and names from src/

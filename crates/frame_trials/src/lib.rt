@@ -4,6 +4,8 @@
 #[cfg(test)]
 mod call;
 #[cfg(test)]
+mod counter;
+#[cfg(test)]
 mod edges;
 #[cfg(test)]
 mod limits;
