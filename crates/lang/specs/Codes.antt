@@ -1,7 +1,8 @@
 -- Code in memory as a list of instructions and a list of places.
-use Rattle.std.specs.Prelude.{◌≡◌, ℕ, ◌≤◌, Bool, true, false, cond, ◌⊎◌, List, [], ◌∷◌, ◌++◌, length, nat_lt, slice_set}
+use Rattle.std.specs.Prelude.{◌≡◌, ℕ, ◌≤◌, Bool, true, false, cond, ◌⊎◌, List, [], ◌∷◌, ◌++◌, length, Ok, Err, Result, nat_lt, slice_set}
 use Rattle.lang.specs.declared.instruction.Instruction.{Instruction}
 use Rattle.lang.specs.declared.code.Code.{Code}
+use Rattle.lang.specs.declared.stack.Full.{Full}
 use Rattle.lang.specs.Stacks.{held, room}
 
 -- the instructions, from position 0
@@ -23,9 +24,9 @@ abbrev pub short_code : ℕ → ℕ → Bool
 short_code i p = cond (nat_lt i 12288) true (nat_lt p 12288)
 
 -- after an instruction more, or where there was no room
-abbrev pub Emitted : Bool → Code → Instruction → ℕ → Code → Type 0
-Emitted true a i p b = (instructions_of b ≡ instructions_of a ++ (i ∷ [])) × (places_of b ≡ places_of a ++ (p ∷ [])) × (code_room b ≡ code_room a) × (place_room b ≡ place_room a)
-Emitted false a i p b = (instructions_of b ≡ instructions_of a) × (places_of b ≡ places_of a) × (code_room b ≡ code_room a) × (place_room b ≡ place_room a) × ((code_room a ≤ length (instructions_of a)) ⊎ (place_room a ≤ length (places_of a)))
+abbrev pub Emitted : Result Unit Full → Code → Instruction → ℕ → Code → Type 0
+Emitted (Ok _) a i p b = (instructions_of b ≡ instructions_of a ++ (i ∷ [])) × (places_of b ≡ places_of a ++ (p ∷ [])) × (code_room b ≡ code_room a) × (place_room b ≡ place_room a)
+Emitted (Err _) a i p b = (instructions_of b ≡ instructions_of a) × (places_of b ≡ places_of a) × (code_room b ≡ code_room a) × (place_room b ≡ place_room a) × ((code_room a ≤ length (instructions_of a)) ⊎ (place_room a ≤ length (places_of a)))
 
 -- after a change of one instruction
 pub record Patched (at : ℕ) (i : Instruction) (a b : Code) : Type 0 where

@@ -32,28 +32,15 @@ pub fn class_of(b: u8) -> Class
 pub fn in_name(b: u8) -> bool
     ensures { result ≡ name_byte b }
 {
-    match class_of(b) {
-        Class::Letter => true,
-        Class::Digit => true,
-        Class::Underscore => true,
-        Class::Space => false,
-        Class::Colon => false,
-        Class::Mark(_) => false,
-        Class::Other => false,
-    }
+    matches!(
+        class_of(b),
+        Class::Letter | Class::Digit | Class::Underscore
+    )
 }
 
 // Whether a byte is a digit.
 pub fn in_number(b: u8) -> bool
     ensures { result ≡ digit_byte b }
 {
-    match class_of(b) {
-        Class::Digit => true,
-        Class::Letter => false,
-        Class::Underscore => false,
-        Class::Space => false,
-        Class::Colon => false,
-        Class::Mark(_) => false,
-        Class::Other => false,
-    }
+    matches!(class_of(b), Class::Digit)
 }

@@ -4,14 +4,14 @@ ghost use Rattle.lang.specs.Instructions.{parts as parts_of};
 use crate::value::Value;
 
 // Whether a datum is a constant or a variable.
-#[derive(Clone, Copy)]
+#[derive(Clone, Copy, PartialEq, Eq, Debug)]
 pub enum Binding {
     Constant,
     Variable,
 }
 
 // One instruction of the machine. `parts` of specs/Instructions.antt gives each case its number and operands.
-#[derive(Clone, Copy)]
+#[derive(Clone, Copy, PartialEq, Eq, Debug)]
 pub enum Instruction {
     Push(Value),
     Load { hops: u8, offset: u8 },

@@ -1,8 +1,10 @@
 ghost use Rattle.std.specs.Prelude.{◌≡◌};
 ghost use Rattle.lang.specs.Refusals.{number};
 
-// Why a call is turned away. `number` of specs/Refusals.antt gives each case its number.
-#[derive(Clone, Copy, Debug)]
+use std::fmt;
+
+// Why a call is turned away, in the order of the numbers. `number` of specs/Refusals.antt gives each case its number.
+#[derive(Clone, Copy, PartialEq, Eq, PartialOrd, Ord, Debug)]
 pub enum Refusal {
     ShortMemory,
     BadSheet,
@@ -30,11 +32,20 @@ pub enum Refusal {
 }
 
 impl Refusal {
-    // The refusal's number.
-    pub fn code(self) -> u8
-        ensures { result ≡ number self }
+    // A text refused for this at a place.
+    pub fn at(self, place: u16) -> Refused
+        ensures { result ≡ record { place = place; why = self } }
     {
-        match self {
+        Refused { place, why: self }
+    }
+}
+
+// The refusal's number.
+impl From<Refusal> for u8 {
+    ghost from_gives = { λ why n. n ≡ number why };
+
+    fn from(why: Refusal) -> u8 {
+        match why {
             Refusal::ShortMemory => 1,
             Refusal::BadSheet => 2,
             Refusal::TextTooLong => 3,
@@ -62,9 +73,21 @@ impl Refusal {
     }
 }
 
-// A refused text: why, and the place it is refused at.
-#[derive(Clone, Copy)]
+impl fmt::Display for Refusal {
+    fn fmt<W: fmt::Write>(&self, f: &mut fmt::Formatter<W>) -> fmt::Result {
+        write!(f, "{}", u8::from(*self))
+    }
+}
+
+// A refused text: the place it is refused at, and why. Of two, the earlier place is less, then the lower number.
+#[derive(Clone, Copy, PartialEq, Eq, PartialOrd, Ord, Debug)]
 pub struct Refused {
-    pub why: Refusal,
     pub place: u16,
+    pub why: Refusal,
+}
+
+impl fmt::Display for Refused {
+    fn fmt<W: fmt::Write>(&self, f: &mut fmt::Formatter<W>) -> fmt::Result {
+        write!(f, "refused {} {}", self.why, self.place)
+    }
 }

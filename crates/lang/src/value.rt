@@ -1,15 +1,17 @@
 ghost use Rattle.std.specs.Prelude.{◌≡◌};
 ghost use Rattle.lang.specs.Values.{kind_of, slot_of, value_in, alike as same_kind};
 
+use std::fmt;
+
 // The two kinds of value.
-#[derive(Clone, Copy)]
+#[derive(Clone, Copy, PartialEq, Eq, Debug)]
 pub enum Kind {
     Number,
     Truth,
 }
 
 // What an expression is worth.
-#[derive(Clone, Copy)]
+#[derive(Clone, Copy, PartialEq, Eq, Debug)]
 pub enum Value {
     Number(i32),
     Truth(bool),
@@ -38,21 +40,29 @@ impl Value {
     pub fn alike(self, other: Value) -> bool
         ensures { result ≡ same_kind self other }
     {
-        match (self, other) {
-            (Value::Number(_), Value::Number(_)) => true,
-            (Value::Truth(_), Value::Truth(_)) => true,
-            (Value::Number(_), Value::Truth(_)) => false,
-            (Value::Truth(_), Value::Number(_)) => false,
-        }
+        self.kind() == other.kind()
     }
+}
 
-    // The slot that holds this value.
-    pub fn slot(self) -> Slot
-        ensures { result ≡ slot_of self }
-    {
-        match self {
+// The slot that holds a value.
+impl From<Value> for Slot {
+    ghost from_gives = { λ value slot. slot ≡ slot_of value };
+
+    fn from(value: Value) -> Slot {
+        match value {
             Value::Number(z) => Slot::Number(z),
             Value::Truth(b) => Slot::Truth(b),
+        }
+    }
+}
+
+// A value as a number: a truth is 1 or 0.
+impl fmt::Display for Value {
+    fn fmt<W: fmt::Write>(&self, f: &mut fmt::Formatter<W>) -> fmt::Result {
+        match self {
+            Value::Number(z) => write!(f, "{z}"),
+            Value::Truth(true) => f.write_str("1"),
+            Value::Truth(false) => f.write_str("0"),
         }
     }
 }

@@ -1,5 +1,5 @@
 // What kind of word stands in a text: a name, a number, a reserved word or a mark.
-#[derive(Clone, Copy)]
+#[derive(Clone, Copy, PartialEq, Eq, Debug)]
 pub enum Kind {
     Name,
     Number,
@@ -35,7 +35,7 @@ pub enum Kind {
 }
 
 // What a byte can do in a text. A colon stands only before an equals sign, as the mark `:=`.
-#[derive(Clone, Copy)]
+#[derive(Clone, Copy, PartialEq, Eq, Debug)]
 pub enum Class {
     Space,
     Letter,
@@ -45,5 +45,3 @@ pub enum Class {
     Mark(Kind),
     Other,
 }
-
-pub mod calls;

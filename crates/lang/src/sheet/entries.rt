@@ -1,8 +1,10 @@
-ghost use Rattle.std.specs.Prelude.{◌≡◌};
+ghost use Rattle.std.specs.Prelude.{◌≡◌, Some, None, MatchResult};
+ghost use Rattle.lang.specs.Refusals.{number};
 ghost use Rattle.lang.specs.Sheets.{is_letter as letter, all_name, is_name, value_of, mark_of, entry_of};
 
 use crate::byte::{class_of, in_name};
 use crate::name::Name;
+use crate::refusal::Refusal;
 use crate::reserved::reserved_of;
 use crate::sheet::{Described, Entry, Mark};
 use crate::value::Value;
@@ -11,27 +13,14 @@ use crate::word::{Class, Kind};
 fn is_letter(b: u8) -> bool
     ensures { result ≡ letter b }
 {
-    match class_of(b) {
-        Class::Letter => true,
-        Class::Space => false,
-        Class::Digit => false,
-        Class::Underscore => false,
-        Class::Colon => false,
-        Class::Mark(_) => false,
-        Class::Other => false,
-    }
+    matches!(class_of(b), Class::Letter)
 }
 
 // Whether all bytes can stand in a name.
 fn all_name(bytes: &[u8]) -> bool
     ensures { result ≡ all_name bytes.now }
 {
-    for i in 0..bytes.len() {
-        if !in_name(bytes[i]) {
-            return false;
-        }
-    }
-    true
+    bytes.iter().all(|b| in_name(*b))
 }
 
 // Whether the bytes are a name: a letter, up to 15 more letters, digits or underscores, and no reserved word.
@@ -41,56 +30,52 @@ pub fn is_name(bytes: &[u8]) -> bool
     if bytes.len() == 0 || bytes.len() > 16 || !is_letter(bytes[0]) || !all_name(bytes) {
         return false;
     }
-    match reserved_of(bytes) {
-        Kind::Name => true,
-        _ => false,
-    }
+    matches!(reserved_of(bytes), Kind::Name)
 }
 
 // The value that the host means by a kind and a number.
 pub fn value_of(kind: u8, value: i64) -> Option<Value>
     ensures { result ≡ value_of kind value }
 {
-    match kind {
-        0 => {
-            if -2147483648 <= value && value <= 2147483647 {
-                Some(Value::Number(value as i32))
-            } else {
-                None
-            }
-        }
-        1 => match value {
-            0 => Some(Value::Truth(false)),
-            1 => Some(Value::Truth(true)),
-            _ => None,
-        },
+    match (kind, value) {
+        (0, -2147483648..=2147483647) => Some(Value::Number(value as i32)),
+        (1, 0) => Some(Value::Truth(false)),
+        (1, 1) => Some(Value::Truth(true)),
         _ => None,
     }
 }
 
-fn mark_of(mark: u8) -> Option<Mark>
-    ensures { result ≡ mark_of mark }
-{
-    match mark {
-        0 => Some(Mark::Given),
-        1 => Some(Mark::Kept),
-        _ => None,
+// The mark that the host means by a number.
+impl TryFrom<u8> for Mark {
+    type Error = Refusal;
+
+    ghost try_from_gives = { λ mark r. MatchResult r (λ m. Some m ≡ mark_of mark) (λ e. (None ≡ mark_of mark) × (number e ≡ 2)) };
+
+    fn try_from(mark: u8) -> Result<Mark, Refusal> {
+        match mark {
+            0 => Ok(Mark::Given),
+            1 => Ok(Mark::Kept),
+            _ => Err(Refusal::BadSheet),
+        }
     }
 }
 
 // The entry that the host describes.
-pub fn entry_of(d: Described) -> Option<Entry>
-    ensures { result ≡ entry_of d.entry }
-{
-    if !is_name(d.name) {
-        return None;
-    }
-    match (mark_of(d.mark), value_of(d.kind, d.value)) {
-        (Some(mark), Some(value)) => Some(Entry {
+impl<'t> TryFrom<Described<'t>> for Entry {
+    type Error = Refusal;
+
+    ghost try_from_gives = { λ d r. MatchResult r (λ e. Some e ≡ entry_of d) (λ e. (None ≡ entry_of d) × (number e ≡ 2)) };
+
+    fn try_from(d: Described<'t>) -> Result<Entry, Refusal> {
+        if !is_name(d.name) {
+            return Err(Refusal::BadSheet);
+        }
+        let mark = Mark::try_from(d.mark)?;
+        let value = value_of(d.kind, d.value).ok_or(Refusal::BadSheet)?;
+        Ok(Entry {
             name: Name::of(d.name),
             mark,
             value,
-        }),
-        _ => None,
+        })
     }
 }
