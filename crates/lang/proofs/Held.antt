@@ -1,5 +1,6 @@
 -- What a stack's cells hold, as lists.
 use Rattle.std.proofs.Common.{◌≡◌, ℕ, zero, suc, ◌+◌, ◌-◌, ◌<◌, ◌≤◌, List, [], ◌∷◌, ◌++◌, reverse, length, get_or, take, set, replicate, Some, None, sym, refl, ap, ◌∙◌, arith}
+use native.Mathlib.Numerals.{unary_clauses}
 use Rattle.std.specs.List.{slice_get}
 use Rattle.std.proofs.lemmas.List.{take_more, take_more_set, reverse-append, length-take-le, take_all, replicate_more}
 use Rattle.lang.specs.Stacks.{newest}
@@ -27,6 +28,17 @@ module _ {T : Type 0} where
 
   pub newest_of : (ys : List T) (x : T) → newest (reverse (ys ++ (x ∷ []))) ≡ Some x
   newest_of ys x = ap newest (reverse-append ys (x ∷ []))
+
+  -- where the newest of the first n is x, they are the others and x
+  pub newest_last : (xs : List T) (n : ℕ) (x : T) → n ≤ length xs → Some x ≡ newest (reverse (take n xs)) → (0 < n) × (take n xs ≡ take (n - 1) xs ++ (x ∷ []))
+  newest_last xs zero x l e =
+      let none = e ∙ ap (λ ys. newest (reverse ys)) (take_none xs) in
+      absurd (let z : ◌≡◌ {A = ℕ} 0 1 = cc in omega arith)
+  newest_last xs (suc n) x l e =
+      let f : take (suc n) xs ≡ take n xs ++ (get_or xs n x ∷ []) = simp unary_clauses at (last_of xs (suc n) x (omega arith) l) in
+      let g = e ∙ ap (λ ys. newest (reverse ys)) f ∙ newest_of (take n xs) (get_or xs n x) in
+      let q : x ≡ get_or xs n x = cc in
+      (omega arith, simp unary_clauses (f ∙ ap (λ y. take n xs ++ (y ∷ [])) (sym q)))
 
   pub nth_past : (xs : List T) (i : ℕ) → length xs ≤ i → slice_get xs i ≡ None
   nth_past [] i h = refl

@@ -1,14 +1,12 @@
 -- Entries that are told, sought and added.
-use Rattle.std.proofs.Common.{◌≡◌, ℕ, zero, suc, ◌+◌, ◌<◌, ◌≤◌, true, false, cond, ◌||◌, leb, List, [], ◌∷◌, ◌++◌, length, get_or, drop, set, Some, None, Option, sym, refl, ap, ◌∙◌, suc-add, arith}
+use Rattle.std.proofs.Common.{◌≡◌, ℕ, zero, suc, ◌+◌, ◌<◌, true, false, cond, leb, List, [], ◌∷◌, ◌++◌, length, get_or, drop, set, Some, None, Option, sym, refl, ap, ◌∙◌, arith}
 use Rattle.std.proofs.lemmas.Bool.{cond-false, lt-leb}
 use Rattle.std.specs.List.{slice_get}
-use Rattle.std.proofs.lemmas.List.{drop_all}
-use Rattle.lang.specs.declared.name.Name.{Name}
 use Rattle.lang.specs.declared.value.Value.{Value}
 use Rattle.lang.specs.declared.sheet.Entry.{Entry}
 use Rattle.lang.specs.declared.sheet.Described.{Described}
 use Rattle.lang.specs.Values.{alike}
-use Rattle.lang.specs.Sheets.{named, named_at, told_at, told_value, with_value, valued, sheet_after, added, added_to, entry_of}
+use Rattle.lang.specs.Sheets.{named, told_at, told_value, with_value, valued, sheet_after, added, added_to, entry_of}
 use Rattle.lang.proofs.Scans.{drop-next}
 
 pub told_some : (es : List Entry) (i : ℕ) (e : Entry) (v : Value) → Some e ≡ slice_get es i → true ≡ alike e.value v → told_value es i (Some v) ≡ Some (set es i (with_value e v))
@@ -26,22 +24,6 @@ pub valued-none : (es : List Entry) (i : ℕ) (v : Value) → None ≡ slice_get
 valued-none [] i v h = refl
 valued-none (x ∷ es) zero v h = absurd (let z : ◌≡◌ {A = ℕ} 0 1 = cc in omega arith)
 valued-none (x ∷ es) (suc i) v h = ap (λ r. x ∷ r) (valued-none es i v h)
-
--- what is left of the entries decides whether one has the name
-pub named-drop : (x : Name) (es : List Entry) (i : ℕ) → named x (drop i es) ≡ (named_at x (slice_get es i) || named x (drop (i + 1) es))
-named-drop x [] zero = refl
-named-drop x [] (suc i) = rw (suc-add i 1) refl
-named-drop x (e ∷ es) zero = refl
-named-drop x (e ∷ es) (suc i) = rw (suc-add i 1) (named-drop x es i)
-
-pub named_on : (x : Name) (es : List Entry) (i : ℕ) → false ≡ named_at x (slice_get es i) → named x (drop i es) ≡ named x (drop (i + 1) es)
-named_on x es i h = named-drop x es i ∙ ap (λ b. b || named x (drop (i + 1) es)) (sym h)
-
-pub named_here : (x : Name) (es : List Entry) (i : ℕ) → true ≡ named_at x (slice_get es i) → named x (drop i es) ≡ true
-named_here x es i h = named-drop x es i ∙ ap (λ b. b || named x (drop (i + 1) es)) (sym h)
-
-pub named_end : (x : Name) (es : List Entry) (i : ℕ) → length es ≤ i → named x (drop i es) ≡ false
-named_end x es i h = ap (named x) (drop_all i es h)
 
 -- once an entry is bad, there is no sheet
 pub after_none : (ds : List Described) → sheet_after None ds ≡ None

@@ -1,6 +1,6 @@
 -- The sheet as a list of entries, and which entries there can be.
-use Rattle.std.specs.Prelude.{ℕ, zero, suc, Bool, true, false, cond, ◌&&◌, ◌||◌, List, [], ◌∷◌, ◌++◌, length, take, ℤ, pos, negsuc, Some, None, Option, nat_le, slice_set}
-use Rattle.std.specs.List.{slice_get}
+use Rattle.std.specs.Prelude.{ℕ, zero, suc, Bool, true, false, cond, ◌&&◌, List, [], ◌∷◌, ◌++◌, length, take, ℤ, pos, negsuc, Some, None, Option, nat_le, slice_set}
+use Rattle.std.specs.List.{list_all, list_any, slice_get}
 use Rattle.lang.specs.declared.name.Name.{Name}
 use Rattle.lang.specs.declared.value.Value.{Value}
 use Rattle.lang.specs.declared.value.Value.TheVariants.{Number, Truth}
@@ -36,8 +36,7 @@ is_letter b = letter_class (class_of b)
 
 -- all bytes are letters, digits or underscores
 abbrev pub all_name : List ℕ → Bool
-all_name [] = true
-all_name (b ∷ bs) = name_byte b && all_name bs
+all_name bs = list_all name_byte bs
 
 abbrev pub plain_word : Kind → Bool
 plain_word kind.Name = true
@@ -109,12 +108,7 @@ entry_of d = cond (is_name d.name.now) (entry_with d.name.now (mark_of d.mark) (
 
 -- whether an entry has the name
 abbrev pub named : Name → List Entry → Bool
-named x [] = false
-named x (e ∷ es) = same x e.name || named x es
-
-abbrev pub named_at : Name → Option Entry → Bool
-named_at x None = false
-named_at x (Some e) = same x e.name
+named x es = list_any (λ e. same x e.name) es
 
 -- one entry more: at most 32, each with a name of its own
 abbrev pub added : List Entry → Entry → Option (List Entry)

@@ -1,4 +1,5 @@
 ghost use Rattle.std.specs.Prelude.{◌≡◌};
+ghost use Rattle.lang.specs.Names.{same_bytes, padded};
 
 // A name: its bytes, and zeros up to the sixteenth. No name has a zero byte.
 #[derive(Clone, Copy, PartialEq, Eq, Debug)]
@@ -7,16 +8,20 @@ pub struct Name {
 }
 
 impl Name {
-    ghost use Rattle.lang.specs.Names.{padded};
-
     // The name with these bytes; past the sixteenth they are left out.
     pub fn of(bytes: &[u8]) -> Name
         ensures { result.bytes ≡ padded bytes.now }
     {
         let mut all = [0; 16];
-        for (i, b) in bytes.iter().take(16).enumerate() {
-            all[i] = *b;
-        }
+        let len = bytes.len().min(16);
+        all[..len].copy_from_slice(&bytes[..len]);
         Name { bytes: all }
     }
+}
+
+// Whether two runs of bytes are equal. For `b"literal"`, which `==` would want as a slice at each of 17 places.
+pub fn same_bytes(a: &[u8], b: &[u8]) -> bool
+    ensures { result ≡ same_bytes a.now b.now }
+{
+    a == b
 }

@@ -30,7 +30,7 @@ pub fn is_name(bytes: &[u8]) -> bool
     if bytes.len() == 0 || bytes.len() > 16 || !is_letter(bytes[0]) || !all_name(bytes) {
         return false;
     }
-    matches!(reserved_of(bytes), Kind::Name)
+    reserved_of(bytes) == Kind::Name
 }
 
 // The value that the host means by a kind and a number.
