@@ -80,7 +80,7 @@ impl Sheet {
         ensures front { take result self.now.entries ≡ entries_of self.now }
         ensures few { result ≤ 32 }
     {
-        self.count
+        self.entries().len()
     }
 
     // The entry with a number.

@@ -30,7 +30,7 @@ impl<'m, T: Copy> Stack<'m, T> {
         ensures within { result ≤ length self.now.cells.now }
         ensures front { take result self.now.cells.now ≡ held self.now }
     {
-        self.used
+        self.as_slice().len()
     }
 
     // How many it can hold.
