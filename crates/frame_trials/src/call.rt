@@ -1,7 +1,6 @@
-use frames::chain::Chain;
-use frames::display::Display;
+use frames::frame_memory::FrameMemory;
+use frames::links::Links;
 use frames::memory::{BuildFrames, ReadFrames};
-use lang::refusal::Refusal;
 use lang::value::Slot;
 
 // A call of a frame memory with its arguments.
@@ -32,64 +31,37 @@ pub trait Answers {
     fn answer(&mut self, call: Call) -> Answer;
 }
 
-fn done(res: Result<(), Refusal>) -> Answer {
+// The answer of a call that may be refused.
+pub fn answered<T: Drop, E: Into<u8> + Drop, F: FnOnce(T) -> Answer + Drop>(
+    res: Result<T, E>,
+    holds: F,
+) -> Answer
+    requires { F.IsAlwaysCallable holds }
+{
     match res {
-        Ok(()) => Answer::Done,
-        Err(why) => Answer::Refused(why.code()),
+        Ok(value) => holds(value),
+        Err(why) => Answer::Refused(why.into()),
     }
 }
 
-fn holds(res: Result<Slot, Refusal>) -> Answer {
-    match res {
-        Ok(slot) => Answer::Holds(slot),
-        Err(why) => Answer::Refused(why.code()),
-    }
-}
-
-fn counts(res: Result<usize, Refusal>) -> Answer {
-    match res {
-        Ok(count) => Answer::Count(count),
-        Err(why) => Answer::Refused(why.code()),
-    }
-}
-
-fn read<F: ReadFrames>(f: &F, call: Call) -> Option<Answer> {
-    match call {
-        Call::Get(hops, offset) => Some(holds(f.get(hops, offset))),
-        Call::FrameCount => Some(Answer::Count(f.frame_count())),
-        Call::SlotCount => Some(Answer::Count(f.slot_count())),
-        Call::SlotsOut(hops) => Some(counts(f.slots_out(hops))),
-        _ => None,
-    }
-}
-
-fn build<F: BuildFrames>(f: &mut F, call: Call) -> Answer {
-    match call {
-        Call::Open(n) => done(f.open(n)),
-        Call::Enter(hops, n) => done(f.enter(hops, n)),
-        Call::Leave => done(f.leave()),
-        Call::Put(hops, offset, slot) => done(f.put(hops, offset, slot)),
-        _ => {
-            f.clear();
-            Answer::Done
-        }
-    }
-}
-
-impl<'m> Answers for Chain<'m> {
+impl<'m, L: Links<'m>> Answers for FrameMemory<'m, L> {
     fn answer(&mut self, call: Call) -> Answer {
-        match read(&*self, call) {
-            Some(answer) => answer,
-            None => build(self, call),
-        }
-    }
-}
-
-impl<'m> Answers for Display<'m> {
-    fn answer(&mut self, call: Call) -> Answer {
-        match read(&*self, call) {
-            Some(answer) => answer,
-            None => build(self, call),
+        match call {
+            Call::Get(hops, offset) => answered(self.get(hops, offset), |slot| Answer::Holds(slot)),
+            Call::FrameCount => Answer::Count(self.frame_count()),
+            Call::SlotCount => Answer::Count(self.slot_count()),
+            Call::SlotsOut(hops) => answered(self.slots_out(hops), |n| Answer::Count(n)),
+            Call::Clear => {
+                self.clear();
+                Answer::Done
+            }
+            Call::Open(n) => answered(self.open(n), |_| Answer::Done),
+            Call::Enter(hops, n) => answered(self.enter(hops, n), |_| Answer::Done),
+            Call::Leave => answered(self.leave(), |_| Answer::Done),
+            Call::Put(hops, offset, slot) => answered(
+                self.put(hops, offset, slot),
+                |_| Answer::Done,
+            ),
         }
     }
 }

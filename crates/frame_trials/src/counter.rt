@@ -5,6 +5,15 @@ use lang::value::Slot;
 #[derive(Drop)]
 pub struct Counter(pub u64);
 
+// So many calls, of 100 so many that open and so many that enter, mostly frames narrower than the bound.
+#[derive(Clone, Copy)]
+pub struct Mixture {
+    pub times: u32,
+    pub open: usize,
+    pub enter: usize,
+    pub bound: u64,
+}
+
 impl Counter {
     // A number below the bound, 0 if the bound is 0.
     fn below(&mut self, bound: u64) -> usize {
@@ -62,8 +71,13 @@ impl Counter {
         }
     }
 
-    // Of 100 calls so many open and so many enter, mostly frames narrower than the bound.
-    pub fn call(&mut self, open: usize, enter: usize, bound: u64) -> Call {
+    pub fn call(&mut self, mixture: Mixture) -> Call {
+        let Mixture {
+            open,
+            enter,
+            bound,
+            ..
+        } = mixture;
         let pick = self.below(100);
         if pick < open {
             return Call::Open(self.width(bound));

@@ -1,4 +1,4 @@
-use crate::call::{Answer, Answers, Call};
+use crate::call::{Answer, Answers, Call, answered};
 use lang::value::Slot;
 use std::alloc::Global;
 
@@ -8,7 +8,7 @@ struct Frame {
     parent: Option<usize>,
 }
 
-// A plain frame memory on the heap, oldest frame first. Refusals are bare numbers.
+// A plain frame memory on the heap, oldest frame first. Refusals are bare numbers, so that nothing of the engine's is in it.
 #[derive(Drop)]
 pub struct Model {
     heap: Global,
@@ -25,10 +25,7 @@ impl Model {
 
     // The number of the last frame.
     fn last(&self) -> Option<usize> {
-        match self.frames.len() {
-            0 => None,
-            count => Some(count - 1),
-        }
+        self.frames.len().checked_sub(1)
     }
 
     fn parent(&self, number: usize) -> Option<usize> {
@@ -69,11 +66,10 @@ impl Model {
     }
 
     pub fn slot_count(&self) -> usize {
-        let mut count = 0usize;
-        for frame in self.frames.iter() {
-            count = count.saturating_add(frame.slots.len());
-        }
-        count
+        self.frames.iter().fold(
+            0usize,
+            |count, frame| count.saturating_add(frame.slots.len()),
+        )
     }
 
     pub fn slots_out(&self, hops: usize) -> Result<usize, u8> {
@@ -105,16 +101,9 @@ impl Model {
         if let Some(number) = self.refusal(parent, n) {
             return Err(number);
         }
-        let mut slots = Vec::new(self.heap);
-        for _ in 0..n {
-            if slots.push(Slot::Unset).is_err() {
-                return Err(0);
-            }
-        }
-        if self.frames.push(Frame { slots, parent }).is_err() {
-            return Err(0);
-        }
-        Ok(())
+        let heap = self.heap;
+        let slots = vec![in heap; Slot::Unset; n].map_err(|_| 0u8)?;
+        self.frames.push(Frame { slots, parent }).map_err(|_| 0u8)
     }
 
     pub fn open(&mut self, n: usize) -> Result<(), u8> {
@@ -128,10 +117,7 @@ impl Model {
     }
 
     pub fn leave(&mut self) -> Result<(), u8> {
-        match self.frames.pop() {
-            Some(_) => Ok(()),
-            None => Err(28),
-        }
+        self.frames.pop().map(|_| ()).ok_or(28u8)
     }
 
     pub fn put(&mut self, hops: usize, offset: usize, slot: Slot) -> Result<(), u8> {
@@ -143,42 +129,24 @@ impl Model {
     }
 }
 
-fn done(res: Result<(), u8>) -> Answer {
-    match res {
-        Ok(()) => Answer::Done,
-        Err(number) => Answer::Refused(number),
-    }
-}
-
-fn holds(res: Result<Slot, u8>) -> Answer {
-    match res {
-        Ok(slot) => Answer::Holds(slot),
-        Err(number) => Answer::Refused(number),
-    }
-}
-
-fn counts(res: Result<usize, u8>) -> Answer {
-    match res {
-        Ok(count) => Answer::Count(count),
-        Err(number) => Answer::Refused(number),
-    }
-}
-
 impl Answers for Model {
     fn answer(&mut self, call: Call) -> Answer {
         match call {
-            Call::Get(hops, offset) => holds(self.get(hops, offset)),
+            Call::Get(hops, offset) => answered(self.get(hops, offset), |slot| Answer::Holds(slot)),
             Call::FrameCount => Answer::Count(self.frame_count()),
             Call::SlotCount => Answer::Count(self.slot_count()),
-            Call::SlotsOut(hops) => counts(self.slots_out(hops)),
+            Call::SlotsOut(hops) => answered(self.slots_out(hops), |n| Answer::Count(n)),
             Call::Clear => {
                 self.clear();
                 Answer::Done
             }
-            Call::Open(n) => done(self.open(n)),
-            Call::Enter(hops, n) => done(self.enter(hops, n)),
-            Call::Leave => done(self.leave()),
-            Call::Put(hops, offset, slot) => done(self.put(hops, offset, slot)),
+            Call::Open(n) => answered(self.open(n), |_| Answer::Done),
+            Call::Enter(hops, n) => answered(self.enter(hops, n), |_| Answer::Done),
+            Call::Leave => answered(self.leave(), |_| Answer::Done),
+            Call::Put(hops, offset, slot) => answered(
+                self.put(hops, offset, slot),
+                |_| Answer::Done,
+            ),
         }
     }
 }

@@ -1,10 +1,13 @@
 use crate::call::{Answer, Answers, Call};
-use crate::counter::Counter;
+use crate::counter::{Counter, Mixture};
 use crate::model::Model;
 use crate::step::Step;
 use crate::{edges, limits};
-use frames::chain::Chain;
-use frames::display::Display;
+use frames::chain::{Chain, Parents};
+use frames::display::{Display, Levels};
+use frames::frame_memory::FrameMemory;
+use frames::links::Links;
+use lang::refusal::Refusal;
 use lang::value::Slot;
 use std::alloc::{AllocError, Global};
 use std::test::*;
@@ -31,39 +34,38 @@ fn dirty_slots(heap: Global, count: usize) -> Result<Vec<Slot>, AllocError> {
     Ok(slots)
 }
 
-// So many links, with starts and slots that are just enough.
-fn lent(heap: Global, links: usize) -> Result<(Vec<u16>, Vec<u16>, Vec<Slot>), AllocError> {
-    let links = dirty_numbers(heap, links)?;
-    let starts = dirty_numbers(heap, 256)?;
-    Ok((links, starts, dirty_slots(heap, 2048)?))
+// Memory that a frame memory can be lent.
+#[derive(Drop)]
+struct Lent {
+    links: Vec<u16>,
+    starts: Vec<u16>,
+    slots: Vec<Slot>,
 }
 
-// The number that a chain over so much memory is refused with, or 0.
-fn chain_refusal(heap: Global, parents: usize, starts: usize, slots: usize) -> Result<u8, Fail> {
-    let mut parents = dirty_numbers(heap, parents)?;
-    let mut starts = dirty_numbers(heap, starts)?;
-    let mut slots = dirty_slots(heap, slots)?;
-    match Chain::over(
-        parents.as_mut_slice(),
-        starts.as_mut_slice(),
-        slots.as_mut_slice(),
-    ) {
-        Ok(_) => Ok(0),
-        Err(why) => Ok(why.code()),
+impl Lent {
+    // So much of each kind.
+    fn dirty(heap: Global, links: usize, starts: usize, slots: usize) -> Result<Lent, AllocError> {
+        Ok(Lent {
+            links: dirty_numbers(heap, links)?,
+            starts: dirty_numbers(heap, starts)?,
+            slots: dirty_slots(heap, slots)?,
+        })
+    }
+
+    fn over<'m, L: Links<'m>>(&'m mut self) -> Result<FrameMemory<'m, L>, Refusal> {
+        FrameMemory::over(
+            self.links.as_mut_slice(),
+            self.starts.as_mut_slice(),
+            self.slots.as_mut_slice(),
+        )
     }
 }
 
-fn display_refusal(heap: Global, levels: usize, starts: usize, slots: usize) -> Result<u8, Fail> {
-    let mut levels = dirty_numbers(heap, levels)?;
-    let mut starts = dirty_numbers(heap, starts)?;
-    let mut slots = dirty_slots(heap, slots)?;
-    match Display::over(
-        levels.as_mut_slice(),
-        starts.as_mut_slice(),
-        slots.as_mut_slice(),
-    ) {
-        Ok(_) => Ok(0),
-        Err(why) => Ok(why.code()),
+// The number that something is refused with, or 0.
+fn number<T: Drop>(made: Result<T, Refusal>) -> u8 {
+    match made {
+        Ok(_) => 0,
+        Err(why) => why.into(),
     }
 }
 
@@ -134,14 +136,38 @@ impl Tally {
     }
 }
 
-// How many calls, how many of 100 open and enter, and the bound of most widths: 8,000 calls that
-// lead to many frames, to many slots, to long chains, and back and forth.
-const MIXTURES: [(u32, usize, usize, u64); 5] = [
-    (1500, 15, 65, 4),
-    (2000, 20, 40, 60),
-    (1500, 60, 10, 5),
-    (1500, 16, 16, 40),
-    (1500, 20, 60, 9),
+// 8,000 calls that lead to many frames, to many slots, to long chains, and back and forth.
+const MIXTURES: [Mixture; 5] = [
+    Mixture {
+        times: 1500,
+        open: 15,
+        enter: 65,
+        bound: 4,
+    },
+    Mixture {
+        times: 2000,
+        open: 20,
+        enter: 40,
+        bound: 60,
+    },
+    Mixture {
+        times: 1500,
+        open: 60,
+        enter: 10,
+        bound: 5,
+    },
+    Mixture {
+        times: 1500,
+        open: 16,
+        enter: 16,
+        bound: 40,
+    },
+    Mixture {
+        times: 1500,
+        open: 20,
+        enter: 60,
+        bound: 9,
+    },
 ];
 
 // The chain, the display and the model side by side, in the trial of that name.
@@ -235,45 +261,34 @@ impl<'c, 'd> Trio<'c, 'd> {
         Err(Fail::new("over 256 frames"))
     }
 
-    // So many calls of one mixture, and then out of all frames.
-    fn calls(
-        &mut self,
-        counter: &mut Counter,
-        times: u32,
-        open: usize,
-        enter: usize,
-        bound: u64,
-    ) -> Result<(), Fail> {
-        for _ in 0..times {
-            let call = counter.call(open, enter, bound);
+    // The calls of one mixture, and then out of all frames.
+    fn calls(&mut self, counter: &mut Counter, mixture: Mixture) -> Result<(), Fail> {
+        for _ in 0..mixture.times {
+            let call = counter.call(mixture);
             self.turn(call)?;
         }
         self.unwind()
     }
 
     fn mixtures(&mut self, counter: &mut Counter) -> Result<(), Fail> {
-        for (times, open, enter, bound) in MIXTURES {
-            self.calls(counter, times, open, enter, bound)?;
+        for mixture in MIXTURES {
+            self.calls(counter, mixture)?;
         }
         self.often()
     }
 
     // Each answer came often.
     fn often(&self) -> Result<(), Fail> {
-        if self.tally.done <= 2000 {
-            return Err(Fail::new("done"));
-        }
-        if self.tally.frames <= 100 {
-            return Err(Fail::new("frames"));
-        }
-        if self.tally.slots <= 100 {
-            return Err(Fail::new("slots"));
-        }
-        if self.tally.chain <= 100 {
-            return Err(Fail::new("chain"));
-        }
-        if self.tally.none <= 100 {
-            return Err(Fail::new("none"));
+        for (name, count, least) in [
+            ("done", self.tally.done, 2000),
+            ("frames", self.tally.frames, 100),
+            ("slots", self.tally.slots, 100),
+            ("chain", self.tally.chain, 100),
+            ("none", self.tally.none, 100),
+        ] {
+            if count <= least {
+                return Err(Fail::new(name));
+            }
         }
         Ok(())
     }
@@ -291,18 +306,9 @@ impl<'c, 'd> Trio<'c, 'd> {
 
 // All three over dirty memory, in the trial of that name.
 fn play(trial: &'static str, heap: Global, steps: &[Step], seed: Option<u64>) -> Result<(), Fail> {
-    let (mut links, mut starts, mut slots) = lent(heap, 256)?;
-    let chain = Chain::over(
-        links.as_mut_slice(),
-        starts.as_mut_slice(),
-        slots.as_mut_slice(),
-    )?;
-    let (mut links, mut starts, mut slots) = lent(heap, 4096)?;
-    let display = Display::over(
-        links.as_mut_slice(),
-        starts.as_mut_slice(),
-        slots.as_mut_slice(),
-    )?;
+    let mut chain = Lent::dirty(heap, 256, 256, 2048)?;
+    let mut display = Lent::dirty(heap, 4096, 256, 2048)?;
+    let (chain, display) = (chain.over()?, display.over()?);
     let mut trio = Trio::new(trial, heap, chain, display);
     trio.compare(None)?;
     trio.follow(steps, seed)
@@ -341,13 +347,19 @@ const SHORT: [(usize, usize, usize, usize); 8] = [
 fn short_memory(rt: HostRuntime) -> Result<(), Fail> {
     let heap = rt.alloc();
     for (parents, levels, starts, slots) in SHORT {
-        assert_eq!(rt; chain_refusal(heap, parents, starts, slots)?, 1);
-        assert_eq!(rt; display_refusal(heap, levels, starts, slots)?, 1);
+        let mut lent = Lent::dirty(heap, parents, starts, slots)?;
+        assert_eq!(rt; number(lent.over::<Parents>()), 1);
+        let mut lent = Lent::dirty(heap, levels, starts, slots)?;
+        assert_eq!(rt; number(lent.over::<Levels>()), 1);
     }
-    assert_eq!(rt; chain_refusal(heap, 256, 256, 2048)?, 0);
-    assert_eq!(rt; chain_refusal(heap, 257, 300, 2049)?, 0);
-    assert_eq!(rt; display_refusal(heap, 4096, 256, 2048)?, 0);
-    assert_eq!(rt; display_refusal(heap, 4097, 300, 2049)?, 0);
+    let mut lent = Lent::dirty(heap, 256, 256, 2048)?;
+    assert_eq!(rt; number(lent.over::<Parents>()), 0);
+    let mut lent = Lent::dirty(heap, 257, 300, 2049)?;
+    assert_eq!(rt; number(lent.over::<Parents>()), 0);
+    let mut lent = Lent::dirty(heap, 4096, 256, 2048)?;
+    assert_eq!(rt; number(lent.over::<Levels>()), 0);
+    let mut lent = Lent::dirty(heap, 4097, 300, 2049)?;
+    assert_eq!(rt; number(lent.over::<Levels>()), 0);
     Ok(())
 }
 

@@ -4,16 +4,19 @@ use Rattle.std.proofs.lemmas.Bool.{cases_lt, cond-true, cond-false, lt-ltb, le-l
 use lib.Seq.{take-set-lt}
 use Rattle.std.proofs.lemmas.Slice.{between_is}
 use Rattle.std.proofs.lemmas.List.{take-take, take_at, drop_at, get_or-set_same, get_or-set_other, take-set-le, drop-set-lt, drop-set-add, length-take-le, length-take, length-drop, get_or-take, get_or-drop}
-use Rattle.std.proofs.lemmas.Option.{slice_get-get_or, slice_get_past}
+use Rattle.std.proofs.lemmas.Option.{slice_get-get_or, slice_get_past, some_pair_parts, none-some}
+use Rattle.std.specs.Option.{option_map}
 use Rattle.std.specs.List.{slice_get, between}
 use Rattle.std.proofs.lemmas.Bool.Decides.{nat_tests}
 use Rattle.lang.specs.declared.value.Slot.{Slot}
 use Rattle.lang.specs.declared.value.Slot.TheVariants.{Unset}
 use Rattle.lang.specs.declared.refusal.Refusal.TheVariants.{NoSuchSlot, TooManyFrames, TooManySlots, ChainTooDeep}
 use Rattle.frames.specs.Frames.{Frames, none, ◌▷◌, count, total, newest, up_to, walk, asked, last_slot, last_width, width, Built, refused, done, stands, deep, fresh, grown, filled, filled_in, written_from}
-use Rattle.frames.specs.Layout.{before, laid, frame_at, rises, end_of, Within, Earlier, Inside, part, Placed, frames_in, LaidOut, Room}
+use Rattle.frames.specs.Hops.{before, Within, Earlier, hop}
+use Rattle.frames.specs.Layout.{laid, frame_at, rises, end_of, part, Placed}
+use Rattle.frames.specs.Slots.{frames_in, Room}
 use Rattle.frames.specs.declared.slots.FrameSlots.{FrameSlots}
-use Rattle.frames.specs.Chains.{single}
+use Rattle.frames.proofs.Hops.{within_before}
 
 pub some_before : (p : ℕ) → (p ≡ 0 → ⊥) → Some (p - 1) ≡ before p
 some_before zero h = absurd (h refl)
@@ -26,10 +29,6 @@ before_suc k (suc j) e = cc
 pub walk_none : (h : ℕ) → walk h none ≡ none
 walk_none zero = refl
 walk_none (suc h) = refl
-
-pub within_more : (r : Option ℕ) (k n : ℕ) → Within r k → k ≤ n → Within r n
-within_more None k n w h = tt
-within_more (Some j) k n w h = omega arith
 
 module _ {X : Type 0} where
   pub nth_between : (xs : List X) (s e o : ℕ) (d : X) → e ≤ length xs → s + o < e → slice_get (between s e xs) o ≡ Some (get_or xs (s + o) d)
@@ -75,6 +74,17 @@ rises_bounds ss (suc n) used k r h =
     (omega arith, omega arith))
     (cases_lt k n)
 
+-- where a frame lies, as it was found
+abbrev pub Bounds : List ℕ → ℕ → ℕ → Option ℕ → ℕ → ℕ → Type 0
+Bounds ss n used frame start end = ◌≡◌ {A = Option (ℕ × ℕ)} (Some (start, end)) (option_map (λ k. (get_or ss k 0, end_of ss n used k)) frame)
+
+pub bounds_fit : (ss : List ℕ) (n used : ℕ) (frame : Option ℕ) (start end : ℕ) → rises ss n used ≡ true → Within frame n → Bounds ss n used frame start end → (start ≤ end) × (end ≤ used)
+bounds_fit ss n used None start end r w q = absurd (none-some (start, end) (sym q))
+bounds_fit ss n used (Some k) start end r w q =
+    let p = some_pair_parts start (get_or ss k 0) end (end_of ss n used k) q in
+    let b = rises_bounds ss n used k r w in
+    (omega (arith, p.0, p.1, b.0), omega (arith, p.1, b.1))
+
 module _ (up : ℕ → ℕ) (ss : List ℕ) (sl : List Slot) where
   pub count-laid : (n used : ℕ) → count (laid up ss sl n used) ≡ n
   count-laid zero used = refl
@@ -119,6 +129,14 @@ module _ (up : ℕ → ℕ) (ss : List ℕ) (sl : List Slot) where
   -- one hop from a part
   pub walk-part : (n used k h : ℕ) → k < n → up k ≤ k → walk (suc h) (part up ss sl n used (Some k)) ≡ walk h (part up ss sl n used (before (up k)))
   walk-part n used k h l e = ap (walk h) (upto_part n used k (up k) l e)
+
+  -- hops from a part are hops by the links
+  pub part-hop : (n used : ℕ) → Earlier up n → (h : ℕ) (r : Option ℕ) → Within r n → part up ss sl n used (hop up h r) ≡ walk h (part up ss sl n used r)
+  part-hop n used e zero r w = refl
+  part-hop n used e (suc h) None w = refl
+  part-hop n used e (suc h) (Some k) w =
+      let q = e k w in
+      part-hop n used e h (before (up k)) (within_before (up k) n (omega arith)) ∙ sym (walk-part n used k h w q)
 
   pub stands-part : (n used : ℕ) (r : Option ℕ) → stands (part up ss sl n used r) ≡ is_some r
   stands-part n used None = refl
@@ -190,12 +208,6 @@ rises_push ss n used m h r =
     ∙ ap (λ s. cond (leb s (used + m)) (rises S n s) false) start
     ∙ grind (arith, nat_tests)
 
-pub earlier_push : (ps : List ℕ) (n link : ℕ) → n < length ps → link ≤ n → Earlier (single ps) n → Earlier (single (set ps n link)) (n + 1)
-earlier_push ps n link h l e k lt = ⊎_elim
-    (λ (b : k < n). let ne : k ≢ n = omega arith in let q = get_or-set_other ps n k link 0 ne in let f = e k b in omega arith)
-    (λ (b : n ≤ k). let q : k ≡ n = omega arith in let s = get_or-set_same ps n link 0 h in let t : get_or (set ps n link) k 0 ≡ get_or (set ps n link) n 0 = ap (λ j. get_or (set ps n link) j 0) q in omega arith)
-    (cases_lt k n)
-
 -- one slot written
 module _ (up : ℕ → ℕ) (ss : List ℕ) (sl : List Slot) (o : ℕ) (v : Slot) where
   between_below : (s e i : ℕ) → i < s → between s e (set sl i v) ≡ between s e sl
@@ -266,12 +278,15 @@ module _ (up : ℕ → ℕ) (ss : List ℕ) (sl : List Slot) (n used : ℕ) (r :
             ∙ ap (λ fs. written_from whole fs o v) e,
       )
 
-  pub placed_at : (h k o start end : ℕ) (p : Option ℕ) → part up ss sl n used (Some k) ≡ walk h whole → k < n → start ≡ get_or ss k 0 → end ≡ end_of ss n used k → Inside start end o p → Placed up ss sl n used h o p
-  placed_at h k o start end None e l a b i = placed_out h k o e l (omega arith)
-  placed_at h k o start end (Some p) e l a b i =
-      let P : ℕ → Type 0 = λ x. Placed up ss sl n used h o (Some x) in
-      let q : get_or ss k 0 + o ≡ p = omega (arith, i.0) in
-      subst P q (placed_in h k o e l (omega (arith, i.1)))
+  pub placed_past : (frame : Option ℕ) (h o start end : ℕ) → part up ss sl n used frame ≡ walk h whole → Within frame n → Bounds ss n used frame start end → end ≤ start + o → Placed up ss sl n used h o None
+  placed_past None h o start end e w q b = placed_none h o e
+  placed_past (Some k) h o start end e w q b = let p = some_pair_parts start (get_or ss k 0) end (end_of ss n used k) q in placed_out h k o e w (omega (arith, p.0, p.1))
+
+  pub placed_some : (frame : Option ℕ) (h o start end : ℕ) → part up ss sl n used frame ≡ walk h whole → Within frame n → Bounds ss n used frame start end → start + o < end → Placed up ss sl n used h o (Some (start + o))
+  placed_some None h o start end e w q b = absurd (none-some (start, end) (sym q))
+  placed_some (Some k) h o start end e w q b =
+      let p = some_pair_parts start (get_or ss k 0) end (end_of ss n used k) q in
+      subst (λ x. Placed up ss sl n used h o (Some (x + o))) (sym p.0) (placed_in h k o e w (omega (arith, p.0, p.1)))
 
   pub width_in : (h k : ℕ) → part up ss sl n used (Some k) ≡ walk h whole → k < n → Ok (end_of ss n used k - get_or ss k 0) ≡ width whole h
   width_in h k e l = ap Ok (sym (width_at k l)) ∙ ap last_width e
@@ -289,6 +304,11 @@ module _ (fs gs : Frames) (n : ℕ) where
       cond-false (leb 256 (count fs)) (refused TooManyFrames fs) slot_test (lt-leb 256 (count fs) a)
       ∙ cond-false (ltb 2048 (total fs + n)) (refused TooManySlots fs) last_test (le-ltb 2048 (total fs + n) b)
 
+  pub grown-wide : count fs < 256 → 2048 < total fs + n → refused TooManySlots fs ≡ grown fs gs n
+  grown-wide a b = sym (
+      cond-false (leb 256 (count fs)) (refused TooManyFrames fs) slot_test (lt-leb 256 (count fs) a)
+      ∙ cond-true (ltb 2048 (total fs + n)) (refused TooManySlots fs) last_test (lt-ltb 2048 (total fs + n) b))
+
   pub grown-deep : count fs < 256 → total fs + n ≤ 2048 → deep gs ≡ true → refused ChainTooDeep fs ≡ grown fs gs n
   grown-deep a b d = sym (grown-room a b ∙ cond-true (deep gs) (refused ChainTooDeep fs) (done (fs ▷ fresh n (newest gs))) d)
 
@@ -296,12 +316,12 @@ module _ (fs gs : Frames) (n : ℕ) where
   grown-done a b d = sym (grown-room a b ∙ cond-false (deep gs) (refused ChainTooDeep fs) (done (fs ▷ fresh n (newest gs))) d)
 
 -- where there is room, only the depth is left to test
-module _ (up : ℕ → ℕ) (s : FrameSlots) (l : LaidOut s) (n : ℕ) (r : Room s n) (gs : Frames) where
+module _ (up : ℕ → ℕ) (s : FrameSlots) (n : ℕ) (r : Room s n) (gs : Frames) where
   few_stand : count (frames_in up s) < 256
   few_stand = let a = count-laid up s.starts.now s.cells.now s.count s.used in omega (arith, r.frames)
 
   few_used : total (frames_in up s) + n ≤ 2048
-  few_used = let a = total-laid up s.starts.now s.cells.now s.count s.used l.rising (omega (arith, l.small, l.cell_room)) in omega (arith, r.slots)
+  few_used = let a = total-laid up s.starts.now s.cells.now s.count s.used s.rising (omega (arith, s.small, s.cell_room)) in omega (arith, r.slots)
 
   pub room-deep : deep gs ≡ true → refused ChainTooDeep (frames_in up s) ≡ grown (frames_in up s) gs n
   room-deep d = grown-deep (frames_in up s) gs n few_stand few_used d

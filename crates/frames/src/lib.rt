@@ -3,7 +3,8 @@
 
 pub mod chain;
 pub mod display;
-mod link;
+pub mod frame_memory;
+pub mod links;
 pub mod memory;
 pub mod passage;
 mod slots;

@@ -2,8 +2,8 @@ ghost use Rattle.std.specs.Prelude.{◌≡◌, length};
 ghost use Rattle.frames.specs.Frames.{got};
 ghost use Rattle.frames.specs.Passages.{passed, passed_over};
 
-use crate::chain::Chain;
-use crate::display::Display;
+use crate::frame_memory::FrameMemory;
+use crate::links::Links;
 use crate::memory::{BuildFrames, ReadFrames};
 use lang::refusal::Refusal;
 use lang::value::Slot;
@@ -27,34 +27,19 @@ pub fn passage<F: BuildFrames>(
     Ok(read)
 }
 
-// A passage through a chain in what is lent.
-pub fn through_chain(
-    parents: &mut [u16],
-    starts: &mut [u16],
-    slots: &mut [Slot],
+// A passage through a frame memory in what is lent.
+pub fn passage_over<'m, L: Links<'m>>(
+    links: &'m mut [u16],
+    starts: &'m mut [u16],
+    slots: &'m mut [Slot],
     n: usize,
     offset: usize,
     value: Slot,
 ) -> Result<Slot, Refusal>
-    ensures { result ≡ passed_over 256 (length parents.old) (length starts.old) (length slots.old) n offset value }
+    ensures { result ≡ passed_over L.needed (length links.old) (length starts.old) (length slots.old) n offset value }
 {
-    let mut chain = Chain::over(parents, starts, slots)?;
-    passage(&mut chain, n, offset, value)
-}
-
-// A passage through a display in what is lent.
-pub fn through_display(
-    levels: &mut [u16],
-    starts: &mut [u16],
-    slots: &mut [Slot],
-    n: usize,
-    offset: usize,
-    value: Slot,
-) -> Result<Slot, Refusal>
-    ensures { result ≡ passed_over 4096 (length levels.old) (length starts.old) (length slots.old) n offset value }
-{
-    let mut display = Display::over(levels, starts, slots)?;
-    passage(&mut display, n, offset, value)
+    let mut memory = FrameMemory::<L>::over(links, starts, slots)?;
+    passage(&mut memory, n, offset, value)
 }
 
 // A slot by its pair, through the reading half alone.

@@ -43,6 +43,20 @@ impl<'m> Code<'m> {
         self.instructions.len()
     }
 
+    // The instructions, from position 0.
+    pub fn instructions(&self) -> &[Instruction]
+        ensures { result.now ≡ instructions_of self.now }
+    {
+        self.instructions.as_slice()
+    }
+
+    // Their places.
+    pub fn places(&self) -> &[u16]
+        ensures { result.now ≡ places_of self.now }
+    {
+        self.places.as_slice()
+    }
+
     // The instruction at a position.
     pub fn instruction(&self, at: usize) -> Option<Instruction>
         ensures { result ≡ slice_get (instructions_of self.now) at }

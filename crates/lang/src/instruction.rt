@@ -2,6 +2,7 @@ ghost use Rattle.std.specs.Prelude.{◌≡◌};
 ghost use Rattle.lang.specs.Instructions.{parts as parts_of};
 
 use crate::value::Value;
+use std::fmt;
 
 // Whether a datum is a constant or a variable.
 #[derive(Clone, Copy, PartialEq, Eq, Debug)]
@@ -91,5 +92,13 @@ impl Instruction {
             Instruction::Store { hops, offset } => [26, hops as i64, offset as i64, 0],
             Instruction::Let => [27, 0, 0, 0],
         }
+    }
+}
+
+// The number and the three operands, with a space between.
+impl fmt::Display for Instruction {
+    fn fmt<W: fmt::Write>(&self, f: &mut fmt::Formatter<W>) -> fmt::Result {
+        let [number, a, b, c] = self.parts();
+        write!(f, "{number} {a} {b} {c}")
     }
 }

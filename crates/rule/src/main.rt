@@ -2,9 +2,8 @@
 #![tactic(auto)]
 
 use anyhow::anyhow;
-use lang::refusal::Refusal;
 use runner::example::example_sheet;
-use runner::owned::{Unjudged, judge_over_chain};
+use runner::owned::judge_over_chain;
 use runner::report::report;
 use std::io;
 use std::io::Read;
@@ -21,13 +20,9 @@ fn read_text(rt: &HostRuntime) -> io::Result<Vec<u8>> {
 fn run(rt: &HostRuntime) -> anyhow::Result<()> {
     let heap = rt.alloc();
     let text = read_text(rt)?;
-    let Ok(mut sheet) = example_sheet() else {
-        return Err(anyhow!("the sheet is refused"));
-    };
-    let Ok(answer) = judge_over_chain(heap, &text, &mut sheet) else {
-        return Err(anyhow!("no memory"));
-    };
-    let lines = report(heap, answer, &sheet)?;
+    let mut sheet = example_sheet().map_err(|_| anyhow!("the sheet is refused"))?;
+    let judged = judge_over_chain(heap, &text, &mut sheet);
+    let lines = report(heap, judged, &sheet).map_err(|_| anyhow!("no memory"))?;
     print!(rt; "{}", lines.as_str())?;
     Ok(())
 }

@@ -1,6 +1,6 @@
 ghost use Rattle.runner.specs.Judged.{Judged};
 
-use crate::answer::Answer;
+use crate::unjudged::Unjudged;
 use frames::memory::BuildFrames;
 use lang::code::Code;
 use lang::instruction::Instruction;
@@ -9,6 +9,7 @@ use lang::sheet::Sheet;
 use lang::stack::Stack;
 use lang::value::Value;
 use machine::machine::Machine;
+use machine::outcome::Ran;
 use machine::whole::run_over;
 use reader::node::Node;
 use reader::tree::Tree;
@@ -35,7 +36,7 @@ pub fn judge<'m, F: BuildFrames + Drop>(
     sheet: &mut Sheet,
     memory: Memory<'m>,
     frames: F,
-) -> Result<Answer, Refusal>
+) -> Result<Ran, Unjudged>
     ensures { Judged result sheet.old sheet.new }
 {
     let Memory {
@@ -47,14 +48,12 @@ pub fn judge<'m, F: BuildFrames + Drop>(
         returns,
     } = memory;
     if names.len() < MOST_NAMES {
-        return Err(Refusal::ShortMemory);
+        return Err(Unjudged::Short(Refusal::ShortMemory));
     }
     let mut tree = Tree::over(nodes)?;
     let mut records = Stack::over(names);
     let mut code = Code::over(instructions, places)?;
     let mut machine = Machine::over(values, returns, frames)?;
-    match load(text, sheet, &mut tree, &mut records, &mut code) {
-        Err(refused) => Ok(Answer::Refused(refused)),
-        Ok(_) => Ok(Answer::Ran(run_over(&mut machine, &code, sheet)?)),
-    }
+    load(text, sheet, &mut tree, &mut records, &mut code)?;
+    Ok(run_over(&mut machine, &code, sheet)?)
 }

@@ -1,77 +1,100 @@
-use crate::answer::Answer;
 use crate::judge::{MOST_NAMES, Memory, judge};
-use frames::chain::Chain;
-use frames::display::Display;
+use crate::unjudged::Unjudged;
+use frames::chain::Parents;
+use frames::display::Levels;
+use frames::frame_memory::FrameMemory;
+use frames::links::Links;
 use frames::memory::BuildFrames;
+use lang::code::MOST_CODE;
 use lang::instruction::Instruction;
 use lang::refusal::Refusal;
 use lang::sheet::Sheet;
 use lang::value::{Slot, Value};
-use reader::node::BLANK;
+use machine::outcome::Ran;
+use reader::node::{BLANK, Node};
 use std::alloc::{AllocError, Global};
-use translate::record::NO_RECORD;
+use translate::record::{NO_RECORD, Record};
 
-// Why a rule could not be judged at all: no memory was to be had, or what was handed over is too short.
-#[derive(Clone, Copy, Debug)]
-pub enum Unjudged {
-    NoMemory,
-    Short(Refusal),
+// The memory for one rule, but for its frames, from the heap.
+#[derive(Drop)]
+pub struct Owned {
+    nodes: Vec<Node>,
+    names: Vec<Record>,
+    instructions: Vec<Instruction>,
+    places: Vec<u16>,
+    values: Vec<Value>,
+    returns: Vec<u16>,
 }
 
-impl From<AllocError> for Unjudged {
-    fn from(_e: AllocError) -> Unjudged {
-        Unjudged::NoMemory
+impl Owned {
+    // Enough of each kind.
+    pub fn new(heap: Global) -> Result<Owned, AllocError> {
+        Ok(Owned {
+            nodes: vec![in heap; BLANK; 4096]?,
+            names: vec![in heap; NO_RECORD; MOST_NAMES]?,
+            instructions: vec![in heap; Instruction::Back; MOST_CODE]?,
+            places: vec![in heap; 0u16; MOST_CODE]?,
+            values: vec![in heap; Value::Number(0); 512]?,
+            returns: vec![in heap; 0u16; 256]?,
+        })
+    }
+
+    // All of it, to judge with.
+    pub fn lend(&mut self) -> Memory<'_> {
+        Memory {
+            nodes: &mut self.nodes,
+            names: &mut self.names,
+            instructions: &mut self.instructions,
+            places: &mut self.places,
+            values: &mut self.values,
+            returns: &mut self.returns,
+        }
     }
 }
 
-impl From<Refusal> for Unjudged {
-    fn from(e: Refusal) -> Unjudged {
-        Unjudged::Short(e)
+// The memory for frames from the heap.
+#[derive(Drop)]
+struct OwnedFrames {
+    links: Vec<u16>,
+    starts: Vec<u16>,
+    slots: Vec<Slot>,
+}
+
+impl OwnedFrames {
+    // Enough of each kind, and so many links.
+    fn new(heap: Global, links: usize) -> Result<OwnedFrames, AllocError> {
+        Ok(OwnedFrames {
+            links: vec![in heap; 0u16; links]?,
+            starts: vec![in heap; 0u16; 256]?,
+            slots: vec![in heap; Slot::Unset; 2048]?,
+        })
+    }
+
+    // A frame memory in all of it.
+    fn lend<'m, L: Links<'m>>(&'m mut self) -> Result<FrameMemory<'m, L>, Refusal> {
+        FrameMemory::over(&mut self.links, &mut self.starts, &mut self.slots)
     }
 }
 
-// Judges a rule in memory from the heap.
-fn judge_in<F: BuildFrames + Drop>(
+// Judges a rule in memory from the heap, over any frame memory.
+fn judge_over<F: BuildFrames + Drop>(
     heap: Global,
     text: &[u8],
     sheet: &mut Sheet,
     frames: F,
-) -> Result<Answer, Unjudged> {
-    let mut nodes = vec![in heap; BLANK; 4096]?;
-    let mut names = vec![in heap; NO_RECORD; MOST_NAMES]?;
-    let mut instructions = vec![in heap; Instruction::Back; 12288]?;
-    let mut places = vec![in heap; 0u16; 12288]?;
-    let mut values = vec![in heap; Value::Number(0); 512]?;
-    let mut returns = vec![in heap; 0u16; 256]?;
-    let memory = Memory {
-        nodes: &mut nodes,
-        names: &mut names,
-        instructions: &mut instructions,
-        places: &mut places,
-        values: &mut values,
-        returns: &mut returns,
-    };
-    Ok(judge(text, sheet, memory, frames)?)
+) -> Result<Ran, Unjudged> {
+    let mut owned = Owned::new(heap)?;
+    judge(text, sheet, owned.lend(), frames)
 }
 
 // Judges a rule over a static chain.
-pub fn judge_over_chain(heap: Global, text: &[u8], sheet: &mut Sheet) -> Result<Answer, Unjudged> {
-    let mut parents = vec![in heap; 0u16; 256]?;
-    let mut starts = vec![in heap; 0u16; 256]?;
-    let mut slots = vec![in heap; Slot::Unset; 2048]?;
-    let chain = Chain::over(&mut parents, &mut starts, &mut slots)?;
-    judge_in(heap, text, sheet, chain)
+pub fn judge_over_chain(heap: Global, text: &[u8], sheet: &mut Sheet) -> Result<Ran, Unjudged> {
+    let mut owned = OwnedFrames::new(heap, 256)?;
+    judge_over(heap, text, sheet, owned.lend::<Parents>()?)
 }
 
 // Judges a rule over a display.
-pub fn judge_over_display(
-    heap: Global,
-    text: &[u8],
-    sheet: &mut Sheet,
-) -> Result<Answer, Unjudged> {
-    let mut levels = vec![in heap; 0u16; 4096]?;
-    let mut starts = vec![in heap; 0u16; 256]?;
-    let mut slots = vec![in heap; Slot::Unset; 2048]?;
-    let display = Display::over(&mut levels, &mut starts, &mut slots)?;
-    judge_in(heap, text, sheet, display)
+pub fn judge_over_display(heap: Global, text: &[u8], sheet: &mut Sheet) -> Result<Ran, Unjudged> {
+    let mut owned = OwnedFrames::new(heap, 4096)?;
+    judge_over(heap, text, sheet, owned.lend::<Levels>()?)
 }

@@ -1,61 +1,32 @@
-use crate::answer::Answer;
+use crate::unjudged::Unjudged;
 use lang::refusal::Refused;
 use lang::sheet::Sheet;
-use lang::value::Value;
-use machine::outcome::{Outcome, Ran};
+use machine::outcome::Ran;
 use std::alloc::{AllocError, Global};
-
-// A value as a number: a truth is 1 or 0.
-fn number_of(value: Value) -> i32 {
-    match value {
-        Value::Number(z) => z,
-        Value::Truth(true) => 1,
-        Value::Truth(false) => 0,
-    }
-}
 
 // The line of a refused text.
 pub fn refusal_line(heap: Global, refused: Refused) -> Result<String, AllocError> {
-    let number = refused.why.code();
-    let place = refused.place;
-    format!(in heap; "refused {number} {place}\n")
+    format!(in heap; "{refused}\n")
 }
 
-// The line of a run: how it ended and its steps.
-fn run_line(heap: Global, ran: Ran) -> Result<String, AllocError> {
-    let steps = ran.steps;
-    match ran.outcome {
-        Outcome::Done => format!(in heap; "done {steps}\n"),
-        Outcome::Fault { fault, place } => {
-            let number = fault.code();
-            format!(in heap; "fault {number} {place} {steps}\n")
-        }
-        // neither happens to a checked rule that has all its steps
-        Outcome::Paused => format!(in heap; "paused {steps}\n"),
-        Outcome::Stuck => format!(in heap; "stuck {steps}\n"),
+// The lines of a run: how it ended, and each entry's number and value.
+fn run_lines(heap: Global, ran: Ran, sheet: &Sheet) -> Result<String, AllocError> {
+    let mut lines = format!(in heap; "{ran}\n")?;
+    for (i, entry) in sheet.entries().iter().enumerate() {
+        writeln!(lines, "{i} {}", entry.value)?;
     }
+    Ok(lines)
 }
 
-// A line for each entry: its number and its value.
-fn push_entries(heap: Global, sheet: &Sheet, lines: &mut String) -> Result<(), AllocError> {
-    for i in 0..sheet.len() {
-        if let Some(entry) = sheet.entry(i) {
-            let value = number_of(entry.value);
-            let line = format!(in heap; "{i} {value}\n")?;
-            lines.push_str(line.as_str())?;
-        }
-    }
-    Ok(())
-}
-
-// The lines that report an answer over the sheet as it stands then.
-pub fn report(heap: Global, answer: Answer, sheet: &Sheet) -> Result<String, AllocError> {
-    match answer {
-        Answer::Refused(refused) => refusal_line(heap, refused),
-        Answer::Ran(ran) => {
-            let mut lines = run_line(heap, ran)?;
-            push_entries(heap, sheet, &mut lines)?;
-            Ok(lines)
-        }
+// The lines that report a judged rule over the sheet as it stands then.
+pub fn report(
+    heap: Global,
+    judged: Result<Ran, Unjudged>,
+    sheet: &Sheet,
+) -> Result<String, Unjudged> {
+    match judged {
+        Ok(ran) => Ok(run_lines(heap, ran, sheet)?),
+        Err(Unjudged::Text(refused)) => Ok(refusal_line(heap, refused)?),
+        Err(why) => Err(why),
     }
 }

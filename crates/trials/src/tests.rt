@@ -1,35 +1,36 @@
 use crate::case::Case;
 use crate::{examples, faults, grammar, names, words};
+use lang::sheet::Sheet;
+use machine::outcome::Ran;
 use runner::example::example_sheet;
 use runner::listing::listing;
 use runner::owned::{judge_over_chain, judge_over_display};
 use runner::report::report;
+use runner::unjudged::Unjudged;
 use std::alloc::Global;
 use std::test::Fail;
 
-// The report of a text over the static chain.
-fn chain_report(heap: Global, text: &[u8]) -> Result<String, Fail> {
+// The report of a text, over the frame memory that `judge` takes.
+fn report_by<J: FnOnce(Global, &[u8], &mut Sheet) -> Result<Ran, Unjudged>>(
+    heap: Global,
+    text: &[u8],
+    judge: J,
+) -> Result<String, Fail>
+    requires { J.IsAlwaysCallable judge }
+{
     let mut sheet = example_sheet()?;
-    let answer = judge_over_chain(heap, text, &mut sheet)?;
-    Ok(report(heap, answer, &sheet)?)
+    let judged = judge(heap, text, &mut sheet);
+    Ok(report(heap, judged, &sheet)?)
 }
 
-// The report of a text over the display.
-fn display_report(heap: Global, text: &[u8]) -> Result<String, Fail> {
-    let mut sheet = example_sheet()?;
-    let answer = judge_over_display(heap, text, &mut sheet)?;
-    Ok(report(heap, answer, &sheet)?)
-}
-
-// Both reports are what is wanted.
+// The report over both is what is wanted.
 fn expect(heap: Global, text: &[u8], want: &str) -> Result<(), Fail> {
-    let chain = chain_report(heap, text)?;
-    if chain.as_str() != want {
-        return Err(Fail::new(format_args!("chain: {}, not {want}", chain.as_str())));
-    }
-    let display = display_report(heap, text)?;
-    if display.as_str() != want {
-        return Err(Fail::new(format_args!("display: {}, not {want}", display.as_str())));
+    let chain = report_by(heap, text, judge_over_chain)?;
+    let display = report_by(heap, text, judge_over_display)?;
+    for (memory, lines) in [("chain", chain.as_str()), ("display", display.as_str())] {
+        if lines != want {
+            return Err(Fail::new(format_args!("{memory}: {lines}, not {want}")));
+        }
     }
     Ok(())
 }
