@@ -47,10 +47,10 @@ pub fn answered<T: Drop, E: Into<u8> + Drop, F: FnOnce(T) -> Answer + Drop>(
 impl<'m, L: Links<'m>> Answers for FrameMemory<'m, L> {
     fn answer(&mut self, call: Call) -> Answer {
         match call {
-            Call::Get(hops, offset) => answered(self.get(hops, offset), |slot| Answer::Holds(slot)),
+            Call::Get(hops, offset) => answered(self.get(hops, offset), Answer::Holds),
             Call::FrameCount => Answer::Count(self.frame_count()),
             Call::SlotCount => Answer::Count(self.slot_count()),
-            Call::SlotsOut(hops) => answered(self.slots_out(hops), |n| Answer::Count(n)),
+            Call::SlotsOut(hops) => answered(self.slots_out(hops), Answer::Count),
             Call::Clear => {
                 self.clear();
                 Answer::Done

@@ -132,10 +132,10 @@ impl Model {
 impl Answers for Model {
     fn answer(&mut self, call: Call) -> Answer {
         match call {
-            Call::Get(hops, offset) => answered(self.get(hops, offset), |slot| Answer::Holds(slot)),
+            Call::Get(hops, offset) => answered(self.get(hops, offset), Answer::Holds),
             Call::FrameCount => Answer::Count(self.frame_count()),
             Call::SlotCount => Answer::Count(self.slot_count()),
-            Call::SlotsOut(hops) => answered(self.slots_out(hops), |n| Answer::Count(n)),
+            Call::SlotsOut(hops) => answered(self.slots_out(hops), Answer::Count),
             Call::Clear => {
                 self.clear();
                 Answer::Done

@@ -12,26 +12,33 @@ use lang::value::Slot;
 use std::alloc::{AllocError, Global};
 use std::test::*;
 
-// Memory to lend, full of rubbish.
-fn dirty_numbers(heap: Global, count: usize) -> Result<Vec<u16>, AllocError> {
-    let mut counter = Counter(3);
-    let mut numbers = Vec::new(heap);
+// So many of whatever `make` makes: memory to lend is full of rubbish.
+fn filled<T: Drop, M: FnMut() -> T + Drop>(
+    heap: Global,
+    count: usize,
+    mut make: M,
+) -> Result<Vec<T>, AllocError>
+    requires { M.IsAlwaysCallable make }
+{
+    let mut all = Vec::new(heap);
     for _ in 0..count {
-        numbers.push(counter.number())?;
+        all.push(make())?;
     }
-    Ok(numbers)
+    Ok(all)
 }
 
+fn dirty_numbers(heap: Global, count: usize) -> Result<Vec<u16>, AllocError> {
+    let mut counter = Counter(3);
+    filled(heap, count, || counter.number())
+}
+
+// No slot of a new frame holds what lay there: so none of these is unset.
 fn dirty_slots(heap: Global, count: usize) -> Result<Vec<Slot>, AllocError> {
     let mut counter = Counter(5);
-    let mut slots = Vec::new(heap);
-    for _ in 0..count {
-        match counter.slot() {
-            Slot::Unset => slots.push(Slot::Number(77))?,
-            slot => slots.push(slot)?,
-        }
-    }
-    Ok(slots)
+    filled(heap, count, || match counter.slot() {
+        Slot::Unset => Slot::Number(77),
+        slot => slot,
+    })
 }
 
 // Memory that a frame memory can be lent.
