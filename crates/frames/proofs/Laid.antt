@@ -1,46 +1,30 @@
 -- frames that lie in starts and slots, whatever keeps their parents
-use Rattle.std.proofs.Common.{◌≡◌, ℕ, zero, suc, ◌+◌, ◌-◌, ◌<◌, ◌≤◌, true, false, cond, eqb, ltb, leb, ◌≢◌, List, [], ◌++◌, length, get_or, take, drop, set, replicate, is_some, Some, None, Ok, Option, sym, refl, ap, ◌∙◌, subst, ⊎_elim, add-one, arith}
-use Rattle.std.proofs.lemmas.Bool.{cases_lt, cond-true, cond-false, lt-ltb, le-ltb, lt-leb}
+use Rattle.std.proofs.Common.{◌≡◌, ℕ, zero, suc, ◌+◌, ◌-◌, ◌<◌, ◌≤◌, true, false, cond, eqb, leb, ◌≢◌, List, ◌++◌, length, get_or, take, drop, set, replicate, is_some, Some, None, Option, sym, refl, ap, ◌∙◌, subst, ⊎_elim, add-one, arith}
+use Rattle.std.proofs.lemmas.Bool.{cases_lt}
 use lib.Seq.{take-set-lt}
 use Rattle.std.proofs.lemmas.Slice.{between_is}
-use Rattle.std.proofs.lemmas.List.{take-take, take_at, drop_at, get_or-set_same, get_or-set_other, take-set-le, drop-set-lt, drop-set-add, length-take-le, length-take, length-drop, get_or-take, get_or-drop}
+use Rattle.std.proofs.lemmas.List.Edits.{length-between, get_or-between}
+use Rattle.std.proofs.lemmas.List.{take-take, take_at, drop_at, get_or-set_same, get_or-set_other, take-set-le, drop-set-lt, drop-set-add, length-take-le}
 use Rattle.std.proofs.lemmas.Option.{slice_get-get_or, slice_get_past, some_pair_parts, none-some}
 use Rattle.std.specs.Option.{option_map}
 use Rattle.std.specs.List.{slice_get, between}
 use Rattle.std.proofs.lemmas.Bool.Decides.{nat_tests}
 use Rattle.lang.specs.declared.value.Slot.{Slot}
 use Rattle.lang.specs.declared.value.Slot.TheVariants.{Unset}
-use Rattle.lang.specs.declared.refusal.Refusal.TheVariants.{NoSuchSlot, TooManyFrames, TooManySlots, ChainTooDeep}
-use Rattle.frames.specs.Frames.{Frames, none, ◌▷◌, count, total, newest, up_to, walk, asked, last_slot, last_width, width, Built, refused, done, stands, deep, fresh, grown, filled, filled_in, written_from}
+use Rattle.lang.specs.declared.refusal.Refusal.TheVariants.{NoSuchSlot, TooManySlots, ChainTooDeep}
+use Rattle.frames.specs.Frames.{Frames, none, ◌▷◌, count, total, newest, up_to, walk, asked, last_slot, refused, done, stands, deep, fresh, grown, filled, filled_in, written_from}
 use Rattle.frames.specs.Hops.{before, Within, Earlier, hop}
 use Rattle.frames.specs.Layout.{laid, frame_at, rises, end_of, part, Placed}
 use Rattle.frames.specs.Slots.{frames_in, Room}
 use Rattle.frames.specs.declared.slots.FrameSlots.{FrameSlots}
 use Rattle.frames.proofs.Hops.{within_before}
 
-pub some_before : (p : ℕ) → (p ≡ 0 → ⊥) → Some (p - 1) ≡ before p
-some_before zero h = absurd (h refl)
-some_before (suc p) h = ap Some (omega arith)
+nth_between : (sl : List Slot) (s e o : ℕ) (d : Slot) → e ≤ length sl → s + o < e → slice_get (between s e sl) o ≡ Some (get_or sl (s + o) d)
+nth_between sl s e o d h l =
+    let w = length-between sl s e h in
+    slice_get-get_or (between s e sl) o d (omega arith) ∙ ap Some (get_or-between sl s e o d l)
 
-pub before_suc : (k j : ℕ) → Some k ≡ before j → suc k ≡ j
-before_suc k zero e = absurd (let z : ◌≡◌ {A = ℕ} 0 1 = cc in omega arith)
-before_suc k (suc j) e = cc
-
-pub walk_none : (h : ℕ) → walk h none ≡ none
-walk_none zero = refl
-walk_none (suc h) = refl
-
-module _ {X : Type 0} where
-  pub nth_between : (xs : List X) (s e o : ℕ) (d : X) → e ≤ length xs → s + o < e → slice_get (between s e xs) o ≡ Some (get_or xs (s + o) d)
-  nth_between xs s e o d h l =
-      let lt : o < length (take (e - s) (drop s xs)) = simp (length-take, length-drop) (omega arith) in
-      let lo : o < e - s = omega arith in
-      slice_get-get_or (between s e xs) o d lt ∙ ap Some (get_or-take (e - s) (drop s xs) o d lo ∙ get_or-drop s xs o d)
-
-  pub length_between : (xs : List X) (s e : ℕ) → e ≤ length xs → length (between s e xs) ≡ e - s
-  length_between xs s e h = simp (length-take, length-drop) (omega arith)
-
-pub rises-parts : (ss : List ℕ) (m used : ℕ) → rises ss (suc m) used ≡ true → (get_or ss m 0 ≤ used) × (rises ss m (get_or ss m 0) ≡ true)
+rises-parts : (ss : List ℕ) (m used : ℕ) → rises ss (suc m) used ≡ true → (get_or ss m 0 ≤ used) × (rises ss m (get_or ss m 0) ≡ true)
 rises-parts ss m used h = (grind (arith, nat_tests), grind (arith, nat_tests))
 
 end_more : (ss : List ℕ) (n used k : ℕ) → k < n → end_of ss n (get_or ss n 0) k ≡ end_of ss (suc n) used k
@@ -57,7 +41,7 @@ end_low ss (suc n) used k p h l = ⊎_elim
     (λ (b : n ≤ k). let q : n ≡ k = omega arith in let pn : p < n = omega arith in subst (λ j. end_of ss j (get_or ss j 0) p ≡ end_of ss (suc n) used p) q (end_more ss n used p pn))
     (cases_lt k n)
 
-pub rises_bounds : (ss : List ℕ) (n used k : ℕ) → rises ss n used ≡ true → k < n → (get_or ss k 0 ≤ end_of ss n used k) × (end_of ss n used k ≤ used)
+rises_bounds : (ss : List ℕ) (n used k : ℕ) → rises ss n used ≡ true → k < n → (get_or ss k 0 ≤ end_of ss n used k) × (end_of ss n used k ≤ used)
 rises_bounds ss zero used k r h = absurd (omega arith)
 rises_bounds ss (suc n) used k r h =
     let p = rises-parts ss n used r in
@@ -95,18 +79,10 @@ module _ (up : ℕ → ℕ) (ss : List ℕ) (sl : List Slot) where
   total-laid (suc n) used r h =
       let p = rises-parts ss n used r in
       let t = total-laid n (get_or ss n 0) p.1 (omega arith) in
-      let w = length_between sl (get_or ss n 0) used h in
+      let w = length-between sl (get_or ss n 0) used h in
       omega arith
 
-  pub newest-laid : (n used : ℕ) → newest (laid up ss sl n used) ≡ before n
-  newest-laid zero used = refl
-  newest-laid (suc n) used = ap Some (count-laid n (get_or ss n 0))
-
-  pub part_all : (n used : ℕ) → part up ss sl n used (before n) ≡ laid up ss sl n used
-  part_all zero used = refl
-  part_all (suc n) used = ap (laid up ss sl (suc n)) (sym (end_last ss n used))
-
-  pub upto_laid : (n used k : ℕ) → k < n → up_to (Some k) (laid up ss sl n used) ≡ laid up ss sl (suc k) (end_of ss n used k)
+  upto_laid : (n used k : ℕ) → k < n → up_to (Some k) (laid up ss sl n used) ≡ laid up ss sl (suc k) (end_of ss n used k)
   upto_laid zero used k h = absurd (omega arith)
   upto_laid (suc n) used k h =
       let s = get_or ss n 0 in
@@ -127,7 +103,7 @@ module _ (up : ℕ → ℕ) (ss : List ℕ) (sl : List Slot) where
   upto_part n used k (suc p) h l = upto_laid k (get_or ss k 0) p (omega arith) ∙ ap (laid up ss sl (suc p)) (end_low ss n used k p (omega arith) h)
 
   -- one hop from a part
-  pub walk-part : (n used k h : ℕ) → k < n → up k ≤ k → walk (suc h) (part up ss sl n used (Some k)) ≡ walk h (part up ss sl n used (before (up k)))
+  walk-part : (n used k h : ℕ) → k < n → up k ≤ k → walk (suc h) (part up ss sl n used (Some k)) ≡ walk h (part up ss sl n used (before (up k)))
   walk-part n used k h l e = ap (walk h) (upto_part n used k (up k) l e)
 
   -- hops from a part are hops by the links
@@ -147,14 +123,13 @@ module _ (up : ℕ → ℕ) (ss : List ℕ) (sl : List Slot) where
   newest-part n used (Some k) = ap Some (count-laid k (get_or ss k 0))
 
 -- what lies past the frames that stand does not matter
-module _ (up up' : ℕ → ℕ) (ss ss' : List ℕ) (sl sl' : List Slot) where
-  pub rises-same : (n used : ℕ) → ((k : ℕ) → k < n → get_or ss' k 0 ≡ get_or ss k 0) → rises ss' n used ≡ rises ss n used
-  rises-same zero used e = refl
-  rises-same (suc n) used e =
-      let q : get_or ss' n 0 ≡ get_or ss n 0 = e n (omega arith) in
-      ap (λ s. cond (leb s used) (rises ss' n s) false) q
-      ∙ ap (λ b. cond (leb (get_or ss n 0) used) b false) (rises-same n (get_or ss n 0) (λ k h. e k (omega arith)))
+rises-same : (ss ss' : List ℕ) (n used : ℕ) → ((k : ℕ) → k < n → get_or ss' k 0 ≡ get_or ss k 0) → rises ss' n used ≡ rises ss n used
+rises-same ss ss' zero used e = refl
+rises-same ss ss' (suc n) used e =
+    ap (λ s. cond (leb s used) (rises ss' n s) false) (e n (omega arith))
+    ∙ ap (λ b. cond (leb (get_or ss n 0) used) b false) (rises-same ss ss' n (get_or ss n 0) (λ k h. e k (omega arith)))
 
+module _ (up up' : ℕ → ℕ) (ss ss' : List ℕ) (sl sl' : List Slot) where
   between_same : (s used : ℕ) → take used sl' ≡ take used sl → between s used sl' ≡ between s used sl
   between_same s used e = between_is sl' s used ∙ ap (drop s) e ∙ sym (between_is sl s used)
 
@@ -167,7 +142,7 @@ module _ (up up' : ℕ → ℕ) (ss ss' : List ℕ) (sl sl' : List Slot) where
       ∙ ap (λ x. record { slots = x; parent = before (up' k) }) (between_same (get_or ss k 0) used e)
       ∙ ap (λ x. record { slots = between (get_or ss k 0) used sl; parent = before x }) p
 
-  pub laid_same : (n used : ℕ) → ((k : ℕ) → k < n → up' k ≡ up k) → ((k : ℕ) → k < n → get_or ss' k 0 ≡ get_or ss k 0) → take used sl' ≡ take used sl → rises ss n used ≡ true → laid up' ss' sl' n used ≡ laid up ss sl n used
+  laid_same : (n used : ℕ) → ((k : ℕ) → k < n → up' k ≡ up k) → ((k : ℕ) → k < n → get_or ss' k 0 ≡ get_or ss k 0) → take used sl' ≡ take used sl → rises ss n used ≡ true → laid up' ss' sl' n used ≡ laid up ss sl n used
   laid_same zero used p q e r = refl
   laid_same (suc n) used p q e r =
       let b = rises-parts ss n used r in
@@ -195,15 +170,12 @@ laid_push up up' ss sl sl' n used m parent hs hu l others' e r =
     ∙ ap (λ xs. laid up ss sl n used ▷ record { slots = xs; parent = before (up' n) }) high
     ∙ ap (λ p. laid up ss sl n used ▷ fresh m p) l
 
-up₀ : ℕ → ℕ
-up₀ k = 0
-
 pub rises_push : (ss : List ℕ) (n used m : ℕ) → n < length ss → rises ss n used ≡ true → rises (set ss n used) (n + 1) (used + m) ≡ true
 rises_push ss n used m h r =
     let S = set ss n used in
     let start : get_or S n 0 ≡ used = get_or-set_same ss n used 0 h in
     let others : (k : ℕ) → k < n → get_or S k 0 ≡ get_or ss k 0 = λ k h. let ne : k ≢ n = omega arith in get_or-set_other ss n k used 0 ne in
-    let same : rises S n used ≡ true = rises-same up₀ up₀ ss S [] [] n used others ∙ r in
+    let same : rises S n used ≡ true = rises-same ss S n used others ∙ r in
     ap (λ j. rises S j (used + m)) (add-one n)
     ∙ ap (λ s. cond (leb s (used + m)) (rises S n s) false) start
     ∙ grind (arith, nat_tests)
@@ -216,7 +188,7 @@ module _ (up : ℕ → ℕ) (ss : List ℕ) (sl : List Slot) (o : ℕ) (v : Slot
   between_put : (s e : ℕ) → s + o < e → between s e (set sl (s + o) v) ≡ set (between s e sl) o v
   between_put s e h = ap (take (e - s)) (drop-set-add s sl o v) ∙ take-set-lt (e - s) (drop s sl) o v (omega arith)
 
-  pub laid_put : (n used k : ℕ) → rises ss n used ≡ true → k < n → get_or ss k 0 + o < end_of ss n used k
+  laid_put : (n used k : ℕ) → rises ss n used ≡ true → k < n → get_or ss k 0 + o < end_of ss n used k
       → laid up ss (set sl (get_or ss k 0 + o) v) n used ≡ filled_in k o v (laid up ss sl n used)
   laid_put zero used k r h l = absurd (omega arith)
   laid_put (suc n) used k r h l =
@@ -251,18 +223,18 @@ module _ (up : ℕ → ℕ) (ss : List ℕ) (sl : List Slot) (n used : ℕ) (r :
   abbrev whole : Frames
   whole = laid up ss sl n used
 
-  pub placed_none : (h o : ℕ) → none ≡ walk h whole → Placed up ss sl n used h o None
+  placed_none : (h o : ℕ) → none ≡ walk h whole → Placed up ss sl n used h o None
   placed_none h o e = (ap (λ fs. last_slot fs o) e, λ v. ap (λ fs. written_from whole fs o v) e)
 
   width_at : (k : ℕ) → k < n → length (between (get_or ss k 0) (end_of ss n used k) sl) ≡ end_of ss n used k - get_or ss k 0
-  width_at k h = let b = rises_bounds ss n used k r h in length_between sl (get_or ss k 0) (end_of ss n used k) (omega arith)
+  width_at k h = let b = rises_bounds ss n used k r h in length-between sl (get_or ss k 0) (end_of ss n used k) (omega arith)
 
   placed_out : (h k o : ℕ) → part up ss sl n used (Some k) ≡ walk h whole → k < n → end_of ss n used k ≤ get_or ss k 0 + o → Placed up ss sl n used h o None
   placed_out h k o e l b =
       let w = width_at k l in
       let xs = between (get_or ss k 0) (end_of ss n used k) sl in (
         ap asked (sym (slice_get_past xs o (omega arith))) ∙ ap (λ fs. last_slot fs o) e,
-        λ v. sym (cond-false (ltb o (length xs)) (done (filled_in (count (laid up ss sl k (get_or ss k 0))) o v whole)) (refused NoSuchSlot whole) (le-ltb o (length xs) (omega arith))) ∙ ap (λ fs. written_from whole fs o v) e,
+        λ v. (let q : refused NoSuchSlot whole ≡ written_from whole (part up ss sl n used (Some k)) o v = grind (arith, nat_tests) in q) ∙ ap (λ fs. written_from whole fs o v) e,
       )
 
   placed_in : (h k o : ℕ) → part up ss sl n used (Some k) ≡ walk h whole → k < n → get_or ss k 0 + o < end_of ss n used k → Placed up ss sl n used h o (Some (get_or ss k 0 + o))
@@ -274,7 +246,7 @@ module _ (up : ℕ → ℕ) (ss : List ℕ) (sl : List Slot) (n used : ℕ) (r :
         ap asked (sym (nth_between sl (get_or ss k 0) (end_of ss n used k) o Unset (omega arith) b)) ∙ ap (λ fs. last_slot fs o) e,
         λ v. ap done (laid_put up ss sl o v n used k r l b)
             ∙ ap (λ j. done (filled_in j o v whole)) (sym (count-laid up ss sl k (get_or ss k 0)))
-            ∙ sym (cond-true (ltb o (length xs)) (done (filled_in (count (laid up ss sl k (get_or ss k 0))) o v whole)) (refused NoSuchSlot whole) (lt-ltb o (length xs) (omega arith)))
+            ∙ (let q : done (filled_in (count (laid up ss sl k (get_or ss k 0))) o v whole) ≡ written_from whole (part up ss sl n used (Some k)) o v = grind (arith, nat_tests) in q)
             ∙ ap (λ fs. written_from whole fs o v) e,
       )
 
@@ -288,43 +260,20 @@ module _ (up : ℕ → ℕ) (ss : List ℕ) (sl : List Slot) (n used : ℕ) (r :
       let p = some_pair_parts start (get_or ss k 0) end (end_of ss n used k) q in
       subst (λ x. Placed up ss sl n used h o (Some (x + o))) (sym p.0) (placed_in h k o e w (omega (arith, p.0, p.1)))
 
-  pub width_in : (h k : ℕ) → part up ss sl n used (Some k) ≡ walk h whole → k < n → Ok (end_of ss n used k - get_or ss k 0) ≡ width whole h
-  width_in h k e l = ap Ok (sym (width_at k l)) ∙ ap last_width e
-
 -- the order of the refusals
-module _ (fs gs : Frames) (n : ℕ) where
-  abbrev last_test : Built
-  last_test = cond (deep gs) (refused ChainTooDeep fs) (done (fs ▷ fresh n (newest gs)))
-
-  abbrev slot_test : Built
-  slot_test = cond (ltb 2048 (total fs + n)) (refused TooManySlots fs) last_test
-
-  grown-room : count fs < 256 → total fs + n ≤ 2048 → grown fs gs n ≡ last_test
-  grown-room a b =
-      cond-false (leb 256 (count fs)) (refused TooManyFrames fs) slot_test (lt-leb 256 (count fs) a)
-      ∙ cond-false (ltb 2048 (total fs + n)) (refused TooManySlots fs) last_test (le-ltb 2048 (total fs + n) b)
-
-  pub grown-wide : count fs < 256 → 2048 < total fs + n → refused TooManySlots fs ≡ grown fs gs n
-  grown-wide a b = sym (
-      cond-false (leb 256 (count fs)) (refused TooManyFrames fs) slot_test (lt-leb 256 (count fs) a)
-      ∙ cond-true (ltb 2048 (total fs + n)) (refused TooManySlots fs) last_test (lt-ltb 2048 (total fs + n) b))
-
-  pub grown-deep : count fs < 256 → total fs + n ≤ 2048 → deep gs ≡ true → refused ChainTooDeep fs ≡ grown fs gs n
-  grown-deep a b d = sym (grown-room a b ∙ cond-true (deep gs) (refused ChainTooDeep fs) (done (fs ▷ fresh n (newest gs))) d)
-
-  pub grown-done : count fs < 256 → total fs + n ≤ 2048 → deep gs ≡ false → done (fs ▷ fresh n (newest gs)) ≡ grown fs gs n
-  grown-done a b d = sym (grown-room a b ∙ cond-false (deep gs) (refused ChainTooDeep fs) (done (fs ▷ fresh n (newest gs))) d)
+pub grown-wide : (fs gs : Frames) (n : ℕ) → count fs < 256 → 2048 < total fs + n → refused TooManySlots fs ≡ grown fs gs n
+grown-wide fs gs n a b = grind (arith, nat_tests)
 
 -- where there is room, only the depth is left to test
 module _ (up : ℕ → ℕ) (s : FrameSlots) (n : ℕ) (r : Room s n) (gs : Frames) where
-  few_stand : count (frames_in up s) < 256
-  few_stand = let a = count-laid up s.starts.now s.cells.now s.count s.used in omega (arith, r.frames)
-
-  few_used : total (frames_in up s) + n ≤ 2048
-  few_used = let a = total-laid up s.starts.now s.cells.now s.count s.used s.rising (omega (arith, s.small, s.cell_room)) in omega (arith, r.slots)
-
   pub room-deep : deep gs ≡ true → refused ChainTooDeep (frames_in up s) ≡ grown (frames_in up s) gs n
-  room-deep d = grown-deep (frames_in up s) gs n few_stand few_used d
+  room-deep d =
+      let a = count-laid up s.starts.now s.cells.now s.count s.used in
+      let b = total-laid up s.starts.now s.cells.now s.count s.used s.rising (omega (arith, s.small, s.cell_room)) in
+      grind (arith, nat_tests, r.frames, r.slots)
 
   pub room-done : deep gs ≡ false → done (frames_in up s ▷ fresh n (newest gs)) ≡ grown (frames_in up s) gs n
-  room-done d = grown-done (frames_in up s) gs n few_stand few_used d
+  room-done d =
+      let a = count-laid up s.starts.now s.cells.now s.count s.used in
+      let b = total-laid up s.starts.now s.cells.now s.count s.used s.rising (omega (arith, s.small, s.cell_room)) in
+      grind (arith, nat_tests, r.frames, r.slots)

@@ -50,7 +50,7 @@ module _ (lv lv' : List ℕ) (n link : ℕ) (linked : Linked (second lv) (IsRow 
   above_kept zero h l hh = refl
   above_kept (suc p) h l hh = kept p h (omega arith) hh
 
-  pub second_new : second lv' n ≡ link
+  second_new : second lv' n ≡ link
   second_new = row 0 (omega arith) ∙ first_above lv n linked link under
 
   row_kept : (k : ℕ) → k < n → IsRow lv' k

@@ -1,6 +1,7 @@
 -- What the slots of frames mean, given the parents.
 use Rattle.std.specs.Prelude.{◌≡◌, ℕ, ◌+◌, ◌<◌, ◌≤◌, Option}
 use Rattle.frames.specs.Frames.{Frames, walk}
+use Rattle.frames.specs.Hops.{Within}
 use Rattle.frames.specs.Layout.{laid, part, Placed}
 use Rattle.frames.specs.declared.slots.FrameSlots.{FrameSlots}
 
@@ -16,9 +17,10 @@ part_in up s k = part up s.starts.now s.cells.now s.count s.used k
 abbrev pub PlacedIn : (ℕ → ℕ) → FrameSlots → ℕ → ℕ → Option ℕ → Type 0
 PlacedIn up s h o r = Placed up s.starts.now s.cells.now s.count s.used h o r
 
--- the frame h hops out is the one numbered so
-abbrev pub Reached : (ℕ → ℕ) → FrameSlots → Option ℕ → ℕ → Type 0
-Reached up s k h = part_in up s k ≡ walk h (frames_in up s)
+-- the frame h hops outward from the last is the one numbered so
+pub record LiesOut (up : ℕ → ℕ) (s : FrameSlots) (k : Option ℕ) (h : ℕ) : Type 0 where
+  pub within : Within k s.count
+  pub part : part_in up s k ≡ walk h (frames_in up s)
 
 -- there is room for a frame of n slots
 pub record Room (s : FrameSlots) (n : ℕ) : Type 0 where

@@ -4,7 +4,9 @@ ghost use Rattle.frames.specs.Chains.{single};
 
 use crate::frame_memory::FrameMemory;
 use crate::links::{Links, decoded};
-use lang::refusal::Refusal;
+
+// One parent for each frame.
+const PARENTS: usize = 256;
 
 // A static chain: the parent of each frame.
 pub type Chain<'m> = FrameMemory<'m, Parents<'m>>;
@@ -34,14 +36,17 @@ impl<'m> Links<'m> for Parents<'m> {
 
     ghost up = { λ p. single p.parents.now };
 
-    // nothing else
+    // Nothing else is kept.
     ghost right = { λ _ _. ⊤ };
 
-    fn over(parents: &'m mut [u16]) -> Result<Parents<'m>, Refusal> {
-        if parents.len() < 256 {
-            return Err(Refusal::ShortMemory);
-        }
-        Ok(Parents { parents })
+    fn needed() -> usize
+        ensures { result ≡ 256 }
+    {
+        PARENTS
+    }
+
+    fn over(parents: &'m mut [u16]) -> Parents<'m> {
+        Parents { parents }
     }
 
     fn walk_out(&self, from: Option<usize>, hops: usize) -> Option<usize> {

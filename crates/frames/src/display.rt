@@ -4,7 +4,9 @@ ghost use Rattle.frames.specs.Displays.{link_of, level, second, above, IsRow};
 
 use crate::frame_memory::FrameMemory;
 use crate::links::{Links, decoded};
-use lang::refusal::Refusal;
+
+// Sixteen levels for each frame.
+const LEVELS: usize = 256 * 16;
 
 // A display: for each frame the numbers of all frames outward.
 pub type Display<'m> = FrameMemory<'m, Levels<'m>>;
@@ -31,7 +33,8 @@ impl<'m> Levels<'m> {
         }
     }
 
-    // The level that lies hops outward from a frame: one read. None lies 16 hops out or farther.
+    // The level that lies hops outward from a frame: one read. None lies 16 hops out or farther, and frames are
+    // numbered below 256.
     fn level_above(&self, from: Option<usize>, hops: usize) -> u16
         ensures near { Within from 256 → hops < 16 → result ≡ above self.now.levels.now (link_of from) hops }
         ensures far { 16 ≤ hops → result ≡ 0 }
@@ -50,11 +53,14 @@ impl<'m> Links<'m> for Levels<'m> {
 
     ghost right = { λ l. IsRow l.levels.now };
 
-    fn over(levels: &'m mut [u16]) -> Result<Levels<'m>, Refusal> {
-        if levels.len() < 4096 {
-            return Err(Refusal::ShortMemory);
-        }
-        Ok(Levels { levels })
+    fn needed() -> usize
+        ensures { result ≡ 4096 }
+    {
+        LEVELS
+    }
+
+    fn over(levels: &'m mut [u16]) -> Levels<'m> {
+        Levels { levels }
     }
 
     fn walk_out(&self, from: Option<usize>, hops: usize) -> Option<usize> {

@@ -1,7 +1,8 @@
 ghost use Rattle.std.specs.Prelude.{◌≡◌, true, false, length, MatchResult};
-ghost use Rattle.frames.specs.Frames.{none, grown, walk};
+ghost use Rattle.frames.specs.Frames.{none, grown};
 ghost use Rattle.frames.specs.Hops.{Within};
 ghost use Rattle.frames.specs.Layout.{short};
+ghost use Rattle.frames.specs.Slots.{LiesOut};
 ghost use Rattle.frames.specs.Memories.{frames_of, part_of, Sound};
 ghost use Rattle.lang.specs.Refusals.{number};
 
@@ -29,14 +30,19 @@ impl<'m, L: Links<'m>> FrameMemory<'m, L> {
             (λ m. (short L.needed (length links.old) (length starts.old) (length slots.old) ≡ false) × Sound L.up L.right m × (frames_of L.up m ≡ none))
             (λ e. (short L.needed (length links.old) (length starts.old) (length slots.old) ≡ true) × (number e ≡ 1)) }
     {
-        let links = L::over(links)?;
+        if links.len() < L::needed() {
+            return Err(Refusal::ShortMemory);
+        }
         let slots = FrameSlots::over(starts, slots)?;
-        Ok(FrameMemory { links, slots })
+        Ok(FrameMemory {
+            links: L::over(links),
+            slots,
+        })
     }
 
     // The frame that lies hops parents outward from the last.
     fn frame_out(&self, hops: usize) -> Option<usize>
-        ensures { Sound L.up L.right self.now → (part_of L.up self.now result ≡ walk hops (frames_of L.up self.now)) × Within result self.now.slots.count }
+        ensures { Sound L.up L.right self.now → LiesOut (L.up self.now.links) self.now.slots result hops }
     {
         self.links.walk_out(self.slots.newest(), hops)
     }

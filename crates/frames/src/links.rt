@@ -1,12 +1,8 @@
-ghost use Rattle.std.specs.Prelude.{◌≡◌, ℕ, ◌+◌, ◌<◌, ◌≤◌, true, false, None, length, nat_lt, MatchResult};
+ghost use Rattle.std.specs.Prelude.{◌≡◌, ℕ, ◌+◌, ◌<◌, ◌≤◌, None, length};
 ghost use Rattle.frames.specs.Hops.{before, Linked, Same, Within, hop};
-ghost use Rattle.lang.specs.Refusals.{number};
-
-use lang::refusal::Refusal;
 
 // How the parent of each frame is kept, in memory that the host lends.
 pub trait Links<'m>: Sized + Drop {
-    // How many numbers have to be lent.
     ghost needed: { ℕ };
 
     // The link of a frame: 0 where it has no parent, else the parent's number plus one.
@@ -15,11 +11,13 @@ pub trait Links<'m>: Sized + Drop {
     // What else is kept of a frame is right.
     ghost right: { Self → ℕ → Type 0 };
 
-    // No frame's link yet, in what is lent; 1 where that is too short.
-    fn over(links: &'m mut [u16]) -> Result<Self, Refusal>
-        ensures { MatchResult result
-            (λ _. nat_lt (length links.old) needed ≡ false)
-            (λ e. (nat_lt (length links.old) needed ≡ true) × (number e ≡ 1)) };
+    // How many numbers have to be lent.
+    fn needed() -> usize
+        ensures { result ≡ needed };
+
+    // No frame's link yet, in what is lent.
+    fn over(links: &'m mut [u16]) -> Self
+        requires { needed ≤ length links.old };
 
     // The frame that lies hops parents outward from a frame.
     fn walk_out(&self, from: Option<usize>, hops: usize) -> Option<usize>

@@ -24,7 +24,7 @@ impl<'m> FrameSlots<'m> {
     ghost use Rattle.frames.specs.Frames.{Frames, none, ◌▷◌, count as frame_total, total as slot_total, got, width, grown, fresh, left, written, refused};
     ghost use Rattle.frames.specs.Hops.{before, Within, Same};
     ghost use Rattle.frames.specs.Layout.{end_of, short_slots};
-    ghost use Rattle.frames.specs.Slots.{frames_in, PlacedIn, Reached, Room};
+    ghost use Rattle.frames.specs.Slots.{frames_in, PlacedIn, LiesOut, Room};
     ghost use Rattle.lang.specs.Refusals.{number};
 
     // No frame yet, in what is lent.
@@ -65,8 +65,7 @@ impl<'m> FrameSlots<'m> {
     // The number of the last frame.
     pub(crate) fn newest(&self) -> Option<usize>
         ensures is { result ≡ before self.now.count }
-        ensures within { Within result self.now.count }
-        ensures all { (up : ℕ → ℕ) → Reached up self.now result 0 }
+        ensures last { (up : ℕ → ℕ) → LiesOut up self.now result 0 }
     {
         self.count.checked_sub(1)
     }
@@ -85,7 +84,7 @@ impl<'m> FrameSlots<'m> {
 
     // How many slots the frame has; 28 where there is no frame.
     pub(crate) fn width(&self, frame: Option<usize>) -> Result<usize, Refusal>
-        ensures { Within frame self.now.count → (up : ℕ → ℕ) (h : ℕ) → Reached up self.now frame h → result ≡ width (frames_in up self.now) h }
+        ensures { (up : ℕ → ℕ) (h : ℕ) → LiesOut up self.now frame h → result ≡ width (frames_in up self.now) h }
     {
         let (start, end) = self.bounds(frame).ok_or(Refusal::NoSuchSlot)?;
         Ok(end - start)
@@ -93,7 +92,7 @@ impl<'m> FrameSlots<'m> {
 
     // The place of a frame's slot.
     fn place(&self, frame: Option<usize>, offset: usize) -> Option<usize>
-        ensures is { Within frame self.now.count → (up : ℕ → ℕ) (h : ℕ) → Reached up self.now frame h → PlacedIn up self.now h offset result }
+        ensures is { (up : ℕ → ℕ) (h : ℕ) → LiesOut up self.now frame h → PlacedIn up self.now h offset result }
         ensures fits { IfSome result (λ p. p < self.now.used) }
     {
         let (start, end) = self.bounds(frame)?;
@@ -106,7 +105,7 @@ impl<'m> FrameSlots<'m> {
 
     // A frame's slot; 28 where there is none.
     pub(crate) fn get(&self, frame: Option<usize>, offset: usize) -> Result<Slot, Refusal>
-        ensures { Within frame self.now.count → (up : ℕ → ℕ) (h : ℕ) → Reached up self.now frame h → result ≡ got (frames_in up self.now) h offset }
+        ensures { (up : ℕ → ℕ) (h : ℕ) → LiesOut up self.now frame h → result ≡ got (frames_in up self.now) h offset }
     {
         let place = self.place(frame, offset).ok_or(Refusal::NoSuchSlot)?;
         Ok(self.cells[place])
@@ -119,7 +118,7 @@ impl<'m> FrameSlots<'m> {
         offset: usize,
         value: Slot,
     ) -> Result<(), Refusal>
-        ensures { Within frame self.old.count → (up : ℕ → ℕ) (h : ℕ) → Reached up self.old frame h
+        ensures { (up : ℕ → ℕ) (h : ℕ) → LiesOut up self.old frame h
             → (self.new.count ≡ self.old.count)
             × (result ≡ (written (frames_in up self.old) h offset value).answer) × (frames_in up self.new ≡ (written (frames_in up self.old) h offset value).after) }
     {

@@ -8,29 +8,21 @@ ghost use Rattle.grammar.specs.Lines.{LinesHold};
 ghost use Rattle.grammar.specs.Examples.{ExamplesHold};
 
 // Reading decides the grammar: a tree, 7 or 8, each exactly where the texts that exist say so; at most one tree.
-pub fn reading_decides() -> u8
+pub fn reading_decides()
     ensures { ReadingDecides }
-{
-    0
-}
+{}
 
 // Words of the same kinds as a text's are a text.
-pub fn kinds_suffice() -> u8
+pub fn kinds_suffice()
     ensures { KindsSuffice }
-{
-    0
-}
+{}
 
 // Reading goes line by line, whatever is to come after a line.
-pub fn lines_hold() -> u8
+pub fn lines_hold()
     ensures { LinesHold }
-{
-    0
-}
+{}
 
 // The worked examples are read as they are said to be.
-pub fn examples_hold() -> u8
+pub fn examples_hold()
     ensures { ExamplesHold }
-{
-    0
-}
+{}

@@ -1,10 +1,12 @@
 -- A whole run over a sheet, against the rule's meaning.
-use Rattle.std.proofs.Common.{◌≡◌, ℕ, zero, suc, ◌+◌, ◌-◌, ◌<◌, ◌≤◌, List, [], ◌∷◌, ◌++◌, map, length, take, Some, None, Ok, Option, Result, sym, refl, ap, ◌∙◌, subst, ap₂, add-one, arith}
+use Rattle.std.proofs.Common.{◌≡◌, ℕ, zero, suc, ◌+◌, ◌-◌, ◌<◌, ◌≤◌, List, [], ◌∷◌, ◌++◌, map, length, take, get_or, set, Some, None, Ok, Option, Result, sym, refl, ap, ◌∙◌, subst, ap₂, add-one, arith}
 use Rattle.std.specs.List.{slice_get}
+use Rattle.std.proofs.lemmas.List.{length-map, take_more, take_more_set, get_or-map}
+use Rattle.std.proofs.lemmas.Option.{slice_get_past}
+use Rattle.std.proofs.lemmas.Simd.{map-map}
 use Rattle.lang.specs.declared.refusal.Refusal.{Refusal}
 use Rattle.lang.specs.declared.value.Value.{Value}
 use Rattle.lang.specs.declared.value.Value.TheVariants as value
-use Rattle.lang.specs.declared.value.Slot.{Slot}
 use Rattle.lang.specs.Values.{slot_of, value_in}
 use Rattle.lang.specs.declared.fault.Fault.{Fault}
 use Rattle.lang.specs.declared.fault.Fault.TheVariants.{Kind, Range, Frames as FramesFault, Slots, Values, Steps}
@@ -35,26 +37,16 @@ use Rattle.machine.proofs.Steps.{step_past, goes-both, goes_then}
 abbrev pub values_of : List Entry → List Value
 values_of es = map (λ e. e.value) es
 
-pub values_more : (es : List Entry) (i : ℕ) (e : Entry) → Some e ≡ slice_get es i → take i (values_of es) ++ (e.value ∷ []) ≡ take (i + 1) (values_of es)
-values_more es i e h = more es i h ∙ ap (λ j. take j (values_of es)) (sym (add-one i))
-  where
-    more : (es : List Entry) (i : ℕ) → Some e ≡ slice_get es i → take i (values_of es) ++ (e.value ∷ []) ≡ take (suc i) (values_of es)
-    more [] i h = absurd (let z : ◌≡◌ {A = ℕ} 0 1 = cc in omega arith)
-    more (x ∷ es) zero h = let q : e ≡ x = cc in ap (λ y. y.value ∷ []) q
-    more (x ∷ es) (suc i) h = ap (λ vs. x.value ∷ vs) (more es i h)
-
-pub is_there : (es : List Entry) (i : ℕ) → i < length es → None ≡ slice_get es i → ⊥
-is_there [] i h e = omega arith
-is_there (x ∷ es) zero h e = let z : ◌≡◌ {A = ℕ} 0 1 = cc in omega arith
-is_there (x ∷ es) (suc i) h e = is_there es i (omega arith) e
-
-pub slots_of : (es : List Entry) → map slot_of (values_of es) ≡ map (λ e. slot_of e.value) es
-slots_of [] = refl
-slots_of (e ∷ es) = ap (λ (ss : List Slot). slot_of e.value ∷ ss) (slots_of es)
+-- one value more at the front of a table
+pub values_more : (t : List Value) (es : List Entry) (i : ℕ) (d : Entry) → i < length t → i < length es → take i t ≡ take i (values_of es) → take (i + 1) (set t i (get_or es i d).value) ≡ take (i + 1) (values_of es)
+values_more t es i d l h e =
+    let v = (get_or es i d).value in
+    take_more_set t i v l ∙ ap (λ vs. vs ++ (v ∷ [])) e ∙ ap (λ w. take i (values_of es) ++ (w ∷ [])) (sym (get_or-map (λ e. e.value) es i d v h))
+    ∙ sym (take_more (values_of es) i v (omega (arith, h, length-map es (λ e. e.value))))
 
 -- a run over the entries begins from their values
 pub begun : (es : List Entry) (vs : List Value) → vs ≡ values_of es → idle (start_frames vs) ≡ start es
-begun es vs e = ap (λ ws. idle (start_frames ws)) e ∙ ap (λ ss. idle (none ▷ record { slots = ss; parent = None })) (slots_of es)
+begun es vs e = ap (λ ws. idle (start_frames ws)) e ∙ ap (λ ss. idle (none ▷ record { slots = ss; parent = None })) (map-map slot_of (λ e. e.value) es)
 
 -- the entries of which the first i are those of fs
 abbrev pub mixed : ℕ → List Entry → List Entry → List Entry
@@ -144,20 +136,9 @@ fault_soon Slots t = omega arith
 fault_soon Values t = omega arith
 fault_soon Steps t = omega arith
 
-past : (code : Code) (i : ℕ) → length code ≤ i → slice_get code i ≡ None
-past [] i h = refl
-past (l ∷ code) zero h = absurd (omega arith)
-past (l ∷ code) (suc i) h = past code i (omega arith)
-
 -- past the code's end no step more is done
 over : (code : Code) (s t : ℕ) (a b : Machine) → goes code s a ≡ go b → length code ≤ b.at → s < t → goes code t a ≡ ended
-over code s t a b e p h = goes_then code s t a b ended h e (step_past code b (past code b.at p))
-
-level : (s t : ℕ) → (s < t → ⊥) → (t < s → ⊥) → s ≡ t
-level zero zero a b = refl
-level zero (suc t) a b = absurd (a (omega arith))
-level (suc s) zero a b = absurd (b (omega arith))
-level (suc s) (suc t) a b = ap suc (level s t (λ h. a (omega arith)) (λ h. b (omega arith)))
+over code s t a b e p h = goes_then code s t a b ended h e (step_past code b (slice_get_past code b.at p))
 
 agreed : (code : Code) (es : List Entry) (e : End) (t s n : ℕ) (o : Outcome) (b : Machine) → t < n → Keeps es e → goes code (end_at e t) (start es) ≡ answer e t → Leaves code es e t → Ends o s code n (start es) b → Agreed es e t o s b
 agreed code es (done fs) t s n outcome.Paused b h k x l r =
@@ -167,7 +148,7 @@ agreed code es (done fs) t s n outcome.Done b h k x l r =
     let apart : s < t → ⊥ = λ q. let w = over code s t (start es) b r.0 r.1 q in let z : ◌≡◌ {A = ℕ} 0 1 = cc (w, l) in omega arith in
     let within : length code ≤ length code = omega arith in
     let beyond : t < s → ⊥ = λ q. let w = over code t s (start es) (finished code fs t) l within q in let z : ◌≡◌ {A = ℕ} 0 1 = cc (w, r.0) in omega arith in
-    let q = level s t apart beyond in
+    let q : s ≡ t = omega (arith, apart, beyond) in
     let w = sym (ap (λ j. goes code j (start es)) q ∙ l) ∙ r.0 in
     let g : finished code fs t ≡ b = cc w in
     record { same = refl; steps = q; stands = (k, ap (λ m. m.frames) (sym g)) }

@@ -1,5 +1,5 @@
 -- How a machine in memory shows the machine on paper.
-use Rattle.std.specs.Prelude.{◌≡◌, ℕ, ◌+◌, ◌<◌, ◌≤◌, Bool, true, false, cond, List, [], ◌∷◌, map, length, Some, None, Ok, Err, Option, Result, nat_lt}
+use Rattle.std.specs.Prelude.{◌≡◌, ℕ, ◌+◌, ◌<◌, ◌≤◌, Bool, true, cond, List, [], ◌∷◌, map, length, Some, None, Ok, Err, Option, Result, nat_lt}
 use Rattle.lang.specs.declared.value.Value.{Value}
 use Rattle.lang.specs.declared.stack.Stack.{Stack}
 use Rattle.lang.specs.declared.value.Slot.{Slot}
@@ -9,9 +9,10 @@ use Rattle.lang.specs.Stacks.{held, items, room}
 use Rattle.frames.specs.Frames.{Frames, none, ◌▷◌}
 use Rattle.meaning.specs.Tree.{Place}
 use Rattle.meaning.specs.Limits.{most_values, most_returns}
-use Rattle.meaning.specs.Machine.{Machine as State, Next, go, stop, stuck}
-use Rattle.machine.specs.declared.outcome.Act.{Act}
-use Rattle.machine.specs.declared.outcome.Act.TheVariants as act
+use Rattle.meaning.specs.Operators.{Worked}
+use Rattle.meaning.specs.Machine.{Machine as State, Next, stop, stuck, on}
+use Rattle.machine.specs.declared.outcome.Halt.{Halt}
+use Rattle.machine.specs.declared.outcome.Halt.TheVariants as halt
 use Rattle.machine.specs.declared.machine.Machine.{Machine}
 
 -- the machine on paper that a machine in memory shows, over what its frame memory means
@@ -24,21 +25,36 @@ pub record Ready {F : Type 0} (sound : F → Type 0) (m : Machine F) : Type 0 wh
   pub return_room : most_returns ≤ room m.returns
   pub well : sound m.frames
 
--- what an instruction at place p led to
-abbrev pub acted : Act → Place → State → Next
-acted act.On p m = go m
-acted (act.Stop f) p m = stop f p m.steps
-acted act.Stuck p m = stuck
+-- the same with the machine at position i
+abbrev pub seen_at : {F : Type 0} → ℕ → (F → Frames) → Machine F → State
+seen_at i frames m = record { at = i; values = items m.values; returns = items m.returns; frames = frames m.frames; steps = m.steps }
 
--- a machine that was ready did what the machine on paper does by n, at whichever place, and counted nothing
-abbrev pub Did : {F : Type 0} → (F → Type 0) → (F → Frames) → Machine F → Machine F → Act → (Place → State → Next) → Type 0
-Did sound frames a b r n = (b.steps ≡ a.steps) × (Ready sound a → Ready sound b × ((p : Place) → acted r p (seen frames b) ≡ n p (seen frames a)))
+-- how an instruction at place p that leads nowhere ends a run
+abbrev pub halted : Halt → Place → State → Next
+halted (halt.Fault f) p m = stop f p m.steps
+halted halt.Stuck p m = stuck
+
+-- what an instruction at place p led to: on at a position, or nowhere
+abbrev pub acted : Result ℕ Halt → Place → State → Next
+acted (Ok i) p m = on i m.values m
+acted (Err h) p m = halted h p m
+
+-- a machine that was ready did, at position i, what the machine on paper does by n, at whichever place, and counted nothing
+abbrev pub Did : {F : Type 0} → (F → Type 0) → (F → Frames) → ℕ → Machine F → Machine F → Result ℕ Halt → (Place → State → Next) → Type 0
+Did sound frames i a b r n = (b.steps ≡ a.steps) × (Ready sound a → Ready sound b × ((p : Place) → acted r p (seen frames b) ≡ n p (seen_at i frames a)))
+
+-- whatever a call at these operands answers by post is what f says
+abbrev pub ComputesOne : (Value → Worked → Type 0) → (Value → Worked) → Type 0
+ComputesOne post f = (v : Value) (r : Worked) → post v r → r ≡ f v
+
+abbrev pub ComputesTwo : (Value → Value → Worked → Type 0) → (Value → Value → Worked) → Type 0
+ComputesTwo post f = (u v : Value) (r : Worked) → post u v r → r ≡ f u v
 
 -- a step that goes on is counted, and no step is taken back
-abbrev pub Counted : Act → ℕ → ℕ → Type 0
-Counted act.On s t = t ≡ s + 1
-Counted (act.Stop f) s t = (s ≤ t) × (t ≤ s + 1)
-Counted act.Stuck s t = s ≤ t
+abbrev pub Counted : Result ℕ Halt → ℕ → ℕ → Type 0
+Counted (Ok i) s t = t ≡ s + 1
+Counted (Err (halt.Fault f)) s t = (s ≤ t) × (t ≤ s + 1)
+Counted (Err halt.Stuck) s t = s ≤ t
 
 -- the two newest values, the older first
 abbrev pub Took : Option (Value × Value) → Stack Value → Stack Value → Type 0
@@ -46,9 +62,9 @@ Took (Some w) a b = (items a ≡ w.1 ∷ w.0 ∷ items b) × (length (held b) < 
 Took None a b = (room b ≡ room a) × (items b ≡ []) × (length (items a) < 2)
 
 -- what is left of the waiting values, and the frames, where there were enough
-abbrev pub moved_by : Bool → List Value → Frames → Option (List Value × Frames)
-moved_by true vs fs = Some (vs, fs)
-moved_by false vs fs = None
+abbrev pub moved_by : Option (Unit {0}) → List Value → Frames → Option (List Value × Frames)
+moved_by (Some u) vs fs = Some (vs, fs)
+moved_by None vs fs = None
 
 -- memory for fewer than 512 waiting values or 256 return positions
 abbrev pub short : ℕ → ℕ → Bool

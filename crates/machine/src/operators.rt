@@ -1,18 +1,39 @@
-ghost use Rattle.std.specs.Prelude.{◌≡◌, ◌+ℤ◌, ◌-ℤ◌, ◌*ℤ◌};
+ghost use Rattle.std.specs.Prelude.{◌≡◌, ◌+ℤ◌, ◌-ℤ◌, ◌*ℤ◌, MatchResult, Bool, ℤ};
+ghost use Rattle.lang.specs.declared.value.Value.TheVariants.{Number, Truth};
+ghost use Rattle.lang.specs.declared.fault.Fault.TheVariants.{Kind};
 ghost use Rattle.meaning.specs.Tree.{minus, negate, add, sub, mul, equal as equal_to, less as less_than};
 ghost use Rattle.meaning.specs.Operators.{ranged as ranged_in, with_sign, worked, conjoined, disjoined};
 
 use lang::fault::Fault;
 use lang::value::Value;
 
+// The number that an operand has to be.
+fn number(v: Value) -> Result<i32, Fault>
+    ensures { MatchResult result (λ z. v ≡ Number z) (λ e. (e ≡ Kind) × (b : Bool) × (v ≡ Truth b)) }
+{
+    match v {
+        Value::Number(z) => Ok(z),
+        Value::Truth(_) => Err(Fault::Kind),
+    }
+}
+
+// The truth that an operand has to be.
+fn truth(v: Value) -> Result<bool, Fault>
+    ensures { MatchResult result (λ b. v ≡ Truth b) (λ e. (e ≡ Kind) × (z : ℤ) × (v ≡ Number z)) }
+{
+    match v {
+        Value::Truth(b) => Ok(b),
+        Value::Number(_) => Err(Fault::Kind),
+    }
+}
+
 // A number in range, or the fault.
 fn ranged(z: i64) -> Result<Value, Fault>
     ensures { result ≡ ranged_in z }
 {
-    if -2147483648 <= z && z <= 2147483647 {
-        Ok(Value::Number(z as i32))
-    } else {
-        Err(Fault::Range)
+    match i32::try_from(z) {
+        Ok(z) => Ok(Value::Number(z)),
+        Err(_) => Err(Fault::Range),
     }
 }
 
@@ -37,80 +58,62 @@ fn product(a: i32, b: i32) -> i64
 pub fn opposite(v: Value) -> Result<Value, Fault>
     ensures { result ≡ with_sign minus v }
 {
-    match v {
-        Value::Number(z) => ranged(-(z as i64)),
-        Value::Truth(_) => Err(Fault::Kind),
-    }
+    let z = number(v)?;
+    ranged(-(z as i64))
 }
 
 pub fn negated(v: Value) -> Result<Value, Fault>
     ensures { result ≡ with_sign negate v }
 {
-    match v {
-        Value::Truth(b) => Ok(Value::Truth(!b)),
-        Value::Number(_) => Err(Fault::Kind),
-    }
+    let b = truth(v)?;
+    Ok(Value::Truth(!b))
 }
 
 pub fn added(p: Value, q: Value) -> Result<Value, Fault>
     ensures { result ≡ worked add p q }
 {
-    match (p, q) {
-        (Value::Number(a), Value::Number(b)) => ranged(sum(a, b)),
-        _ => Err(Fault::Kind),
-    }
+    let (a, b) = (number(p)?, number(q)?);
+    ranged(sum(a, b))
 }
 
 pub fn subtracted(p: Value, q: Value) -> Result<Value, Fault>
     ensures { result ≡ worked sub p q }
 {
-    match (p, q) {
-        (Value::Number(a), Value::Number(b)) => ranged(difference(a, b)),
-        _ => Err(Fault::Kind),
-    }
+    let (a, b) = (number(p)?, number(q)?);
+    ranged(difference(a, b))
 }
 
 pub fn multiplied(p: Value, q: Value) -> Result<Value, Fault>
     ensures { result ≡ worked mul p q }
 {
-    match (p, q) {
-        (Value::Number(a), Value::Number(b)) => ranged(product(a, b)),
-        _ => Err(Fault::Kind),
-    }
+    let (a, b) = (number(p)?, number(q)?);
+    ranged(product(a, b))
 }
 
 pub fn equal(p: Value, q: Value) -> Result<Value, Fault>
     ensures { result ≡ worked equal_to p q }
 {
-    match (p, q) {
-        (Value::Number(a), Value::Number(b)) => Ok(Value::Truth(a == b)),
-        _ => Err(Fault::Kind),
-    }
+    let (a, b) = (number(p)?, number(q)?);
+    Ok(Value::Truth(a == b))
 }
 
 pub fn less(p: Value, q: Value) -> Result<Value, Fault>
     ensures { result ≡ worked less_than p q }
 {
-    match (p, q) {
-        (Value::Number(a), Value::Number(b)) => Ok(Value::Truth(a < b)),
-        _ => Err(Fault::Kind),
-    }
+    let (a, b) = (number(p)?, number(q)?);
+    Ok(Value::Truth(a < b))
 }
 
 pub fn both(p: Value, q: Value) -> Result<Value, Fault>
     ensures { result ≡ conjoined p q }
 {
-    match (p, q) {
-        (Value::Truth(a), Value::Truth(b)) => Ok(Value::Truth(a && b)),
-        _ => Err(Fault::Kind),
-    }
+    let (a, b) = (truth(p)?, truth(q)?);
+    Ok(Value::Truth(a && b))
 }
 
 pub fn either(p: Value, q: Value) -> Result<Value, Fault>
     ensures { result ≡ disjoined p q }
 {
-    match (p, q) {
-        (Value::Truth(a), Value::Truth(b)) => Ok(Value::Truth(a || b)),
-        _ => Err(Fault::Kind),
-    }
+    let (a, b) = (truth(p)?, truth(q)?);
+    Ok(Value::Truth(a || b))
 }

@@ -1,11 +1,12 @@
 use lang::fault::Fault;
-use std::fmt;
+use lang::refusal::Refusal;
+use lang::stack::Full;
 
-// How one instruction leaves the run. No instruction of checked code is `Stuck`.
+// Why an instruction leads nowhere: a fault, or nothing that it says can be done. No instruction of checked code
+// is `Stuck`.
 #[derive(Clone, Copy, PartialEq, Eq, Debug)]
-pub enum Act {
-    On,
-    Stop(Fault),
+pub enum Halt {
+    Fault(Fault),
     Stuck,
 }
 
@@ -35,15 +36,41 @@ pub struct Ran {
     pub steps: u32,
 }
 
-// How the run ended, and its steps last.
-impl fmt::Display for Ran {
-    fn fmt<W: fmt::Write>(&self, f: &mut fmt::Formatter<W>) -> fmt::Result {
-        match self.outcome {
-            Outcome::Done => write!(f, "done {}", self.steps),
-            Outcome::Fault { fault, place } => write!(f, "fault {fault} {place} {}", self.steps),
-            // neither happens to a checked rule that has all its steps
-            Outcome::Paused => write!(f, "paused {}", self.steps),
-            Outcome::Stuck => write!(f, "stuck {}", self.steps),
+impl From<Fault> for Halt {
+    ghost use Rattle.std.specs.Prelude.{◌≡◌};
+    ghost use Rattle.machine.specs.declared.outcome.Halt.TheVariants as halts;
+
+    ghost from_gives = { λ fault halt. halt ≡ halts.Fault fault };
+
+    fn from(fault: Fault) -> Halt {
+        Halt::Fault(fault)
+    }
+}
+
+// A frame memory's refusal: two are faults. Checked code names slots that stand, and its frames nest at most 16 deep.
+impl From<Refusal> for Halt {
+    ghost use Rattle.std.specs.Prelude.{◌≡◌};
+    ghost use Rattle.meaning.specs.Machine.{fault_of, refused_by};
+    ghost use Rattle.machine.specs.Shows.{halted};
+
+    ghost from_gives = { λ why halt. (p : _) (m : _) → halted halt p m ≡ refused_by (fault_of why) p m };
+
+    fn from(why: Refusal) -> Halt {
+        match why {
+            Refusal::TooManyFrames => Halt::Fault(Fault::Frames),
+            Refusal::TooManySlots => Halt::Fault(Fault::Slots),
+            _ => Halt::Stuck,
         }
+    }
+}
+
+impl From<Full> for Halt {
+    ghost use Rattle.std.specs.Prelude.{◌≡◌};
+    ghost use Rattle.machine.specs.declared.outcome.Halt.TheVariants as halts;
+
+    ghost from_gives = { λ _ halt. halt ≡ halts.Stuck };
+
+    fn from(_full: Full) -> Halt {
+        Halt::Stuck // a stack has room for all that checked code keeps in it
     }
 }

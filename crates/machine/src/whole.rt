@@ -1,4 +1,4 @@
-ghost use Rattle.std.specs.Prelude.{◌≡◌, ◌≤◌, map, take};
+ghost use Rattle.std.specs.Prelude.{◌≡◌, map};
 ghost use Rattle.lang.specs.Sheets.{entries_of};
 ghost use Rattle.machine.specs.Shows.{Ready};
 ghost use Rattle.machine.specs.Settles.{TakenOver, Settled};
@@ -13,25 +13,22 @@ use lang::refusal::Refusal;
 use lang::sheet::Sheet;
 use lang::value::Value;
 
-// The entries' values go to the front of the table; how many they are.
-fn starting(sheet: &Sheet, table: &mut [Value; 32]) -> usize
-    ensures values { take result table.new ≡ map (λ e. e.value) (entries_of sheet.now) }
-    ensures few { result ≤ 32 }
+// The entries' values, in the front of a table: a gate's memory is fixed, so they are no `Vec`.
+fn starting<'t>(sheet: &Sheet, table: &'t mut [Value; 32]) -> &'t [Value]
+    ensures { result.now ≡ map (λ e. e.value) (entries_of sheet.now) }
 {
-    let count = sheet.len();
-    for i in 0..count {
-        // each number below the count has an entry
-        if let Some(entry) = sheet.entry(i) {
-            table[i] = entry.value;
-        }
+    let count = sheet.len(); // at most 32
+    for (i, entry) in sheet.entries().iter().enumerate() {
+        table[i] = entry.value;
     }
-    count
+    &table[..count]
 }
 
 // The values that the first frame holds go into the sheet.
 fn take_over<F: BuildFrames + Drop>(machine: &Machine<F>, sheet: &mut Sheet)
     ensures { Ready F.ReadFrames.sound machine.now → TakenOver (F.ReadFrames.frames machine.now.frames) (entries_of sheet.old) (entries_of sheet.new) }
 {
+    // by number, since the sheet changes in the loop and lends out no entry to change
     for i in 0..sheet.len() {
         // after done each slot of the first frame holds a value
         if let Some(value) = machine.entry(i) {
@@ -48,8 +45,7 @@ fn settle<F: BuildFrames + Drop>(outcome: Outcome, machine: &Machine<F>, sheet: 
         Outcome::Done => take_over(machine, sheet),
         Outcome::Fault { .. } => {}
         // neither happens to a rule's code that has all its steps
-        Outcome::Paused => {}
-        Outcome::Stuck => {}
+        Outcome::Paused | Outcome::Stuck => {}
     }
 }
 
@@ -63,9 +59,7 @@ pub fn run_over<F: BuildFrames + Drop>(
     ensures { Means F.ReadFrames.sound F.ReadFrames.frames code.now (entries_of sheet.old) (entries_of sheet.new) machine.old machine.new result }
 {
     let mut table = [Value::Number(0); 32];
-    let count = starting(sheet, &mut table);
-    let values: &[Value] = &table;
-    machine.begin(&values[0..count])?;
+    machine.begin(starting(sheet, &mut table))?;
     // with all steps done, one more call finds the fault
     let ran = machine.run(code, MOST_STEPS + 1);
     settle(ran.outcome, machine, sheet);

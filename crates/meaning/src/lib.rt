@@ -8,78 +8,56 @@ ghost use Rattle.meaning.specs.Pairs.{PairsLead};
 ghost use Rattle.meaning.specs.Examples.{ExamplesHold};
 
 // A rule without violations runs as its named meaning says: the same outcome at the same step, the same entries.
-pub fn code_means() -> u8
+pub fn code_means()
     ensures { CodeMeans }
-{
-    0
-}
+{}
 
 // Its run is never stuck.
-pub fn never_stuck() -> u8
+pub fn never_stuck()
     ensures { NeverStuck }
-{
-    0
-}
+{}
 
 // The frame memory never refuses it anything by 27 or 28.
-pub fn frames_serve() -> u8
+pub fn frames_serve()
     ensures { FramesServe }
-{
-    0
-}
+{}
 
 // A run can be cut anywhere.
-pub fn runs_cut() -> u8
+pub fn runs_cut()
     ensures { RunsCut }
-{
-    0
-}
+{}
 
 // No run has more than 1,000,000 steps.
-pub fn runs_end() -> u8
+pub fn runs_end()
     ensures { RunsEnd }
-{
-    0
-}
+{}
 
 // The machine's memory suffices.
-pub fn memory_suffices() -> u8
+pub fn memory_suffices()
     ensures { MemorySuffices }
-{
-    0
-}
+{}
 
 // Where frames stand for an environment, the pair of a name leads to what the name stands for.
-pub fn pairs_lead() -> u8
+pub fn pairs_lead()
     ensures { PairsLead }
-{
-    0
-}
+{}
 
 // During a run they do, at every use of a name.
-pub fn pair_law() -> u8
+pub fn pair_law()
     ensures { PairLaw }
-{
-    0
-}
+{}
 
 // A rule is refused by the least of its violations.
-pub fn refusal_is_least() -> u8
+pub fn refusal_is_least()
     ensures { RefusalIsLeast }
-{
-    0
-}
+{}
 
 // The code has at most three instructions a node.
-pub fn code_is_short() -> u8
+pub fn code_is_short()
     ensures { CodeIsShort }
-{
-    0
-}
+{}
 
 // The worked examples come out as they are said to.
-pub fn examples_hold() -> u8
+pub fn examples_hold()
     ensures { ExamplesHold }
-{
-    0
-}
+{}

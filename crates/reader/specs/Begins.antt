@@ -2,6 +2,8 @@
 use Rattle.std.specs.Prelude.{Bool, true, false}
 use Rattle.lang.specs.declared.word.Kind.{Kind}
 use Rattle.lang.specs.declared.word.Kind.TheVariants.{Name, Number, Call, If, Then, Else, While, Do, Const, Var, Fun, Proc, Let, In, Or, And, Not, True, False, OpenBrace, CloseBrace, Open, Close, Semicolon, Comma, Equal, Less, Plus, Minus, Times, Becomes}
+use Rattle.reader.specs.declared.grammar.begins.Line.{Line}
+use Rattle.reader.specs.declared.grammar.begins.Line.TheVariants.{Command, Expr, Prefix}
 
 abbrev pub begins_command : Kind → Bool
 begins_command Name = true
@@ -101,3 +103,9 @@ begins_expr Plus = false
 begins_expr Minus = true
 begins_expr Times = false
 begins_expr Becomes = false
+
+-- with which words a line can begin
+abbrev pub begins : Line → Kind → Bool
+begins Command = begins_command
+begins Expr = begins_expr
+begins Prefix = begins_prefix

@@ -1,5 +1,5 @@
 -- The reader of the grammar: what is left to read, and what a line leaves as it was.
-use Rattle.std.specs.Prelude.{◌≡◌, ℕ, ◌+◌, ◌-◌, ◌<◌, ◌≤◌, max, Bool, true, false, cond, length, Some, None, Ok, Err, Option, Result}
+use Rattle.std.specs.Prelude.{◌≡◌, ℕ, ◌+◌, ◌-◌, ◌<◌, ◌≤◌, max, Bool, true, false, cond, length, Some, None, Ok, Err, OnOk, Option, Result}
 use Rattle.lang.specs.declared.word.Kind.{Kind}
 use Rattle.lang.specs.Kinds.{same_kind}
 use Rattle.lang.specs.declared.refusal.Refusal.TheVariants.{Unexpected, NestTooDeep}
@@ -8,6 +8,7 @@ use Rattle.reader.specs.declared.words.Word.{Word}
 use Rattle.reader.specs.declared.words.Words.{Words}
 use Rattle.reader.specs.declared.grammar.Reader.{Reader}
 use Rattle.reader.specs.declared.tree.Tree.{Tree}
+use Rattle.reader.specs.Lexing.{end_of}
 use Rattle.reader.specs.Nodes.{node_room}
 
 abbrev pub kind_of : Option Word → Option Kind
@@ -30,12 +31,12 @@ place_or (Some w) n = w.place
 
 -- the place of the word looked at, or the text's length at its end
 abbrev pub here_of : Reader → ℕ
-here_of r = place_or r.word (length r.words.text.now)
+here_of r = place_or r.word (end_of r.words)
 
 -- the bytes that are left, and one for the word looked at
 unfoldable pub left : Words → Option Word → ℕ
-left w None = length w.text.now - w.at
-left w (Some x) = length w.text.now - w.at + 1
+left w None = length w.rest.now
+left w (Some x) = length w.rest.now + 1
 
 abbrev pub unread : Reader → ℕ
 unread r = left r.words r.word
@@ -44,6 +45,11 @@ unread r = left r.words r.word
 pub record Kept (t u : Tree) : Type 0 where
   pub room : node_room u ≡ node_room t
   pub few : u.used ≤ max t.used 4097
+
+-- the table is the same one, and is kept
+pub record Grew (a b : Reader) : Type 0 where
+  pub same : b.tree.ghost_name ≡ a.tree.ghost_name
+  pub kept : Kept a.tree.now b.tree.now
 
 -- a line is read: the nest is as it was, and there is less left
 pub record Passed (a b : Reader) : Type 0 where
@@ -65,14 +71,27 @@ pub record Left (a b : Reader) : Type 0 where
   pub nest : b.nest ≡ a.nest - 1
   pub same : unread b ≡ unread a
 
--- how a line ends
-abbrev pub Gone : {X : Type 0} → Reader → Reader → Result X Refused → Type 0
-Gone a b (Ok x) = Passed a b
-Gone a b (Err e) = Unit {0}
+-- a node is written, and no word read
+pub record Ends (a b : Reader) : Type 0 where
+  pub words : b.words ≡ a.words
+  pub word : b.word ≡ a.word
+  pub nest : b.nest ≡ a.nest
+  pub tree : Grew a b
 
-abbrev pub Lists : {X : Type 0} → Reader → Reader → Result X Refused → Type 0
-Lists a b (Ok x) = Went a b
-Lists a b (Err e) = Unit {0}
+-- what a line does to a reader: its table is kept, whatever comes of it; and where the line is there, it is read
+pub record Gone {X : Type 0} (a b : Reader) (r : Result X Refused) : Type 0 where
+  pub tree : Grew a b
+  pub read : OnOk r (Passed a b)
+
+-- what a list of lines does
+pub record Lists {X : Type 0} (a b : Reader) (r : Result X Refused) : Type 0 where
+  pub tree : Grew a b
+  pub read : OnOk r (Went a b)
+
+-- what a word does: the table is as it was
+pub record Took {X : Type 0} (a b : Reader) (r : Result X Refused) : Type 0 where
+  pub tree : b.tree ≡ a.tree
+  pub read : OnOk r (Passed a b)
 
 -- a line is entered where it can begin so and fewer than 64 are entered; else 7, or 8, at the word looked at
 abbrev pub Entering : Bool → Reader → Reader → Result (Unit {0}) Refused → Type 0

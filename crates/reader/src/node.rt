@@ -1,7 +1,7 @@
 use lang::name::Name;
 
 // What a node stands for.
-#[derive(Clone, Copy)]
+#[derive(Clone, Copy, PartialEq, Eq, Debug)]
 pub enum Label {
     Number(i32),
     Truth(bool),
@@ -30,7 +30,7 @@ pub enum Label {
 }
 
 // A parameter, and where its name stands.
-#[derive(Clone, Copy)]
+#[derive(Clone, Copy, PartialEq, Eq, Debug)]
 pub struct Param {
     pub name: Name,
     pub at: u16,
@@ -41,7 +41,7 @@ pub struct Param {
 // declared, and its place. `count`: a call's args, a routine's parameters, a block's slots.
 // `slot`: the offset of a datum or routine in its block. `routines` and `commands`: how many nodes these
 // parts of a block have. `params`: the first nine parameters of a routine.
-#[derive(Clone, Copy)]
+#[derive(Clone, Copy, PartialEq, Eq, Debug)]
 pub struct Info {
     pub label: Label,
     pub place: u16,
@@ -55,7 +55,7 @@ pub struct Info {
 }
 
 // A node. Its own nodes end just before it, and `start` is the number of the first of them.
-#[derive(Clone, Copy)]
+#[derive(Clone, Copy, PartialEq, Eq, Debug)]
 pub struct Node {
     pub info: Info,
     pub start: u16,

@@ -4,10 +4,8 @@ ghost use Rattle.reader.specs.Looking.{Kept};
 ghost use Rattle.reader.specs.Reads.{Read};
 
 use crate::grammar::Reader;
-use crate::tree::Tree;
-use crate::tree::calls::MOST_NODES;
-use crate::words::Words;
-use crate::words::calls::check_words;
+use crate::tree::{MOST_NODES, Tree};
+use crate::words::{Words, check_words};
 use lang::refusal::{Refusal, Refused};
 
 // Reads the words of a text as a rule, one command, into the table.
@@ -20,8 +18,12 @@ fn read_rule(text: &[u8], tree: &mut Tree) -> Result<(), Refused>
         words,
         word,
         nest: 0,
+        tree,
     };
-    reader.rule(tree)
+    let read = reader.rule();
+    // The reader gives the tree back.
+    let _tree = reader.tree;
+    read
 }
 
 // Reads a text into the table of nodes, numbered as they end. Refused: 3 a text too long; else the first byte of
@@ -35,10 +37,7 @@ pub fn read(text: &[u8], tree: &mut Tree) -> Result<(), Refused>
     check_words(text)?;
     read_rule(text, tree)?;
     if tree.len() > MOST_NODES {
-        return Err(Refused {
-            why: Refusal::TooManyNodes,
-            place: 0,
-        });
+        return Err(Refusal::TooManyNodes.at(0));
     }
     Ok(())
 }

@@ -1,3 +1,4 @@
 pub mod Views
+pub mod Sorts
 pub mod Rooms
 pub mod Loads

@@ -1,7 +1,12 @@
+ghost use Rattle.std.specs.Prelude.{◌≡◌};
+ghost use Rattle.translate.specs.Sorts.{mark_sort, binding_sort};
+
+use lang::instruction::Binding;
 use lang::name::Name;
+use lang::sheet::Mark;
 
 // What a name is declared as; a routine with its count of parameters.
-#[derive(Clone, Copy)]
+#[derive(Clone, Copy, PartialEq, Eq, Debug)]
 pub enum Sort {
     Constant,
     Variable,
@@ -9,9 +14,32 @@ pub enum Sort {
     Procedure(u16),
 }
 
+// A given entry is a constant to a rule, a kept one a variable.
+impl From<Mark> for Sort {
+    ghost from_gives = { λ mark sort. sort ≡ mark_sort mark };
+
+    fn from(mark: Mark) -> Sort {
+        match mark {
+            Mark::Given => Sort::Constant,
+            Mark::Kept => Sort::Variable,
+        }
+    }
+}
+
+impl From<Binding> for Sort {
+    ghost from_gives = { λ binding sort. sort ≡ binding_sort binding };
+
+    fn from(binding: Binding) -> Sort {
+        match binding {
+            Binding::Constant => Sort::Constant,
+            Binding::Variable => Sort::Variable,
+        }
+    }
+}
+
 // A visible name, or the routines of a block that has more names than are kept one by one.
 // `level` counts the frames outside the one that has the name.
-#[derive(Clone, Copy)]
+#[derive(Clone, Copy, PartialEq, Eq, Debug)]
 pub enum Record {
     Known {
         name: Name,
@@ -27,7 +55,7 @@ pub enum Record {
 }
 
 // What a use means.
-#[derive(Clone, Copy)]
+#[derive(Clone, Copy, PartialEq, Eq, Debug)]
 pub struct Found {
     pub sort: Sort,
     pub level: u8,

@@ -1,14 +1,13 @@
-ghost use Rattle.std.specs.Prelude.{◌≡◌};
-ghost use Rattle.lang.specs.Stacks.{room};
+ghost use Rattle.translate.specs.Rooms.{KeepsNames};
 
-use crate::lookup::in_frame;
-use crate::record::{Record, Sort};
-use crate::view::calls::routine_below;
-use lang::instruction::Binding;
+use crate::lookup::{in_record, inner};
+use crate::record::{Found, Record, Sort};
+use crate::view::{Nodes, Routine};
+use crate::violation::lesser;
 use lang::name::Name;
 use lang::narrow::{byte, short};
 use lang::refusal::{Refusal, Refused};
-use lang::sheet::{Mark, Sheet};
+use lang::sheet::Sheet;
 use lang::stack::Stack;
 use reader::tree::Tree;
 
@@ -17,164 +16,159 @@ pub const MOST_SLOTS: usize = 64;
 
 pub const MOST_PARAMS: usize = 8;
 
-// The sheet's names: its frame is the outermost.
-pub fn push_sheet(sheet: &Sheet, names: &mut Stack<Record>)
-    ensures { room names.new ≡ room names.old }
-{
-    for i in 0..sheet.len() {
-        if let Some(entry) = sheet.entry(i) {
-            let sort = match entry.mark {
-                Mark::Given => Sort::Constant,
-                Mark::Kept => Sort::Variable,
-            };
-            // there is room: 32 entries at most
-            let _ = names.push(Record::Known {
-                name: entry.name,
-                sort,
-                level: 0,
-                offset: byte(i),
+// The names that are visible at a place of a tree, where `depth` frames stand.
+#[derive(Drop)]
+pub struct Scope<'t, 'm, 's, 'n> {
+    pub tree: &'t Tree<'m>,
+    pub names: &'s mut Stack<'n, Record>,
+    pub depth: u8,
+}
+
+// The scope around a frame, to go back to: its count of names, and its depth.
+#[derive(Clone, Copy, PartialEq, Eq, Debug)]
+pub struct Outer {
+    names: usize,
+    depth: u8,
+}
+
+impl<'t, 'm, 's, 'n> Scope<'t, 'm, 's, 'n> {
+    // The level of the innermost frame.
+    fn level(&self) -> u8 {
+        self.depth.saturating_sub(1)
+    }
+
+    // The innermost visible declaration of a name, and in its frame the first.
+    pub fn look_up(&self, name: Name) -> Option<Found> {
+        let mut found = None;
+        for record in self.names.as_slice() {
+            found = inner(found, in_record(self.tree, *record, name));
+        }
+        found
+    }
+
+    // The hops and the offset of a name. A checked name is always found.
+    pub fn pair(&self, name: Name) -> (u8, u8) {
+        self.look_up(name).map_or((0, 0), |found| {
+            (self.level().saturating_sub(found.level), found.offset)
+        })
+    }
+
+    // Whether the innermost frame has the name.
+    fn in_frame(&self, name: Name) -> bool {
+        self.look_up(name)
+            .is_some_and(|found| found.level == self.level())
+    }
+
+    // Goes into a frame that has no name yet, and answers what to go back to.
+    pub fn enter(&mut self) -> Outer
+        ensures { KeepsNames self.old self.new }
+    {
+        let outer = Outer {
+            names: self.names.len(),
+            depth: self.depth,
+        };
+        self.depth = self.depth.saturating_add(1);
+        outer
+    }
+
+    pub fn leave(&mut self, outer: Outer)
+        ensures { KeepsNames self.old self.new }
+    {
+        self.names.truncate(outer.names);
+        self.depth = outer.depth;
+    }
+
+    // The innermost frame has a name more, at a slot.
+    pub fn push(&mut self, name: Name, sort: Sort, slot: usize)
+        ensures { KeepsNames self.old self.new }
+    {
+        let level = self.level();
+        // there is room: of each frame at most 64 names are kept one by one
+        let _ = self.names.push(Record::Known {
+            name,
+            sort,
+            level,
+            offset: byte(slot),
+        });
+    }
+
+    // The names of the sheet.
+    pub fn push_sheet(&mut self, sheet: &Sheet)
+        ensures { KeepsNames self.old self.new }
+    {
+        for (i, entry) in sheet.entries().iter().enumerate() {
+            self.push(entry.name, Sort::from(entry.mark), i);
+        }
+    }
+
+    // One name more in the innermost frame, at a slot, of which `most` are allowed; else the violation at its place.
+    // The names past the first too many stand later in the text than that one, so they have no part in the least
+    // violation.
+    pub fn declare(
+        &mut self,
+        name: Name,
+        sort: Sort,
+        slot: usize,
+        most: usize,
+        at: u16,
+    ) -> Result<(), Refused>
+        ensures { KeepsNames self.old self.new }
+    {
+        if slot > most {
+            return Ok(());
+        }
+        if self.in_frame(name) {
+            return Err(Refusal::NameTwice.at(at));
+        }
+        if slot == most {
+            return Err(Refusal::TooManyNames.at(at));
+        }
+        self.push(name, sort, slot);
+        Ok(())
+    }
+
+    // The parameters of a routine are the names of its body's frame; the least violation.
+    pub fn declare_params(&mut self, routine: Routine) -> Option<Refused>
+        ensures { KeepsNames self.old self.new }
+    {
+        let params = self.tree.node(routine.node).info.params;
+        let mut least = None;
+        for (i, p) in params.iter().take(routine.count as usize).enumerate() {
+            let declared = self.declare(p.name, Sort::Constant, i, MOST_PARAMS, p.at);
+            least = lesser(least, declared.err());
+        }
+        least
+    }
+
+    // The routines of a block join its names; the least violation.
+    pub fn declare_routines(&mut self, routines: Nodes) -> Option<Refused>
+        ensures { KeepsNames self.old self.new }
+    {
+        let (routine, before) = routines.split_routine(self.tree)?;
+        let least = self.declare_routines(before);
+        let slot = routine.slot as usize;
+        let declared = self.declare(
+            routine.name,
+            routine.sort(),
+            slot,
+            MOST_SLOTS,
+            routine.at,
+        );
+        lesser(least, declared.err())
+    }
+
+    // In a block with too many names, one record stands for all its routines: those past the most are called
+    // from earlier bodies too.
+    pub fn push_rest(&mut self, count: u16, routines: Nodes)
+        ensures { KeepsNames self.old self.new }
+    {
+        if count as usize > MOST_SLOTS {
+            let level = self.level();
+            let _ = self.names.push(Record::Rest {
+                level,
+                start: short(routines.start),
+                end: short(routines.end),
             });
         }
     }
-}
-
-// A constant of a let.
-pub fn push_let(names: &mut Stack<Record>, name: Name, level: usize)
-    ensures { room names.new ≡ room names.old }
-{
-    let _ = names.push(Record::Known {
-        name,
-        sort: Sort::Constant,
-        level: byte(level),
-        offset: 0,
-    });
-}
-
-pub fn datum_sort(binding: Binding) -> Sort {
-    match binding {
-        Binding::Constant => Sort::Constant,
-        Binding::Variable => Sort::Variable,
-    }
-}
-
-// One name more in the frame at a level, at a slot, of which `most` are allowed. The names past the first
-// too many stand later in the text than that one, so they have no part in the least violation.
-pub fn declare(
-    tree: &Tree,
-    names: &mut Stack<Record>,
-    name: Name,
-    sort: Sort,
-    level: usize,
-    slot: usize,
-    most: usize,
-    at: u16,
-    least: Option<Refused>,
-) -> Option<Refused>
-    ensures { room names.new ≡ room names.old }
-{
-    if slot > most {
-        return least;
-    }
-    let level = byte(level);
-    let counted = if slot == most {
-        note_many(least, at)
-    } else {
-        least
-    };
-    if in_frame(tree, names, name, level) {
-        return crate::violation::note(counted, at, Refusal::NameTwice);
-    }
-    let _ = names.push(Record::Known {
-        name,
-        sort,
-        level,
-        offset: byte(slot),
-    });
-    counted
-}
-
-fn note_many(least: Option<Refused>, at: u16) -> Option<Refused> {
-    crate::violation::note(least, at, Refusal::TooManyNames)
-}
-
-// The routines among the nodes from `start` up to `end` join the names of their block.
-pub fn declare_routines(
-    tree: &Tree,
-    start: usize,
-    end: usize,
-    level: usize,
-    names: &mut Stack<Record>,
-    least: Option<Refused>,
-) -> Option<Refused>
-    ensures { room names.new ≡ room names.old }
-{
-    if start >= end {
-        return least;
-    }
-    let Some(r) = routine_below(tree, end) else {
-        return least;
-    };
-    let before = declare_routines(tree, start, r.start, level, names, least);
-    let sort = if r.function {
-        Sort::Function(r.count)
-    } else {
-        Sort::Procedure(r.count)
-    };
-    declare(
-        tree,
-        names,
-        r.name,
-        sort,
-        level,
-        r.slot as usize,
-        MOST_SLOTS,
-        r.at,
-        before,
-    )
-}
-
-// In a block with too many names, one record stands for all its routines: those past the most are called
-// from earlier bodies too.
-pub fn push_rest(names: &mut Stack<Record>, count: u16, level: usize, start: usize, end: usize)
-    ensures { room names.new ≡ room names.old }
-{
-    if count as usize > MOST_SLOTS {
-        let _ = names.push(Record::Rest {
-            level: byte(level),
-            start: short(start),
-            end: short(end),
-        });
-    }
-}
-
-// The parameters of the routine at a node are the names of its body's frame.
-pub fn push_params(
-    tree: &Tree,
-    node: usize,
-    count: u16,
-    level: usize,
-    names: &mut Stack<Record>,
-    least: Option<Refused>,
-) -> Option<Refused>
-    ensures { room names.new ≡ room names.old }
-{
-    let params = tree.node(node).info.params;
-    let mut least = least;
-    for i in 0..9 {
-        if i < count as usize {
-            let p = params[i];
-            least = declare(
-                tree,
-                names,
-                p.name,
-                Sort::Constant,
-                level,
-                i,
-                MOST_PARAMS,
-                p.at,
-                least,
-            );
-        }
-    }
-    least
 }

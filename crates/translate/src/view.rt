@@ -1,11 +1,22 @@
+ghost use Rattle.std.specs.Prelude.{◌≡◌, ◌+◌, ◌<◌, ◌≤◌};
+ghost use Rattle.translate.specs.Views.{FallsLast, FallsBelow, FallsSplit, FallsExpr, FallsCommand, FallsDatum, FallsRoutine, FallsSplitDatum, FallsSplitRoutine};
+
+use crate::record::Sort;
 use lang::instruction::{Binding, Instruction};
 use lang::name::Name;
 use lang::value::Value;
+use reader::node::{Info, Label};
+use reader::tree::Tree;
 
-pub mod calls;
+// A list of nodes: those from the number `start` up to `end` and the nodes that they hold.
+#[derive(Clone, Copy, PartialEq, Eq, Debug)]
+pub struct Nodes {
+    pub start: usize,
+    pub end: usize,
+}
 
 // An expression's node, with the numbers of the nodes it holds. `place` is its first byte.
-#[derive(Clone, Copy)]
+#[derive(Clone, Copy, PartialEq, Eq, Debug)]
 pub enum Expr {
     Literal {
         place: u16,
@@ -42,14 +53,12 @@ pub enum Expr {
         place: u16,
         name: Name,
         count: u16,
-        start: usize,
+        args: Nodes,
     },
-    Other,
 }
 
-// A command's node likewise. A block's data are the nodes from `start` up to `routines`, then its routines up
-// to `commands`, then its commands.
-#[derive(Clone, Copy)]
+// A command's node likewise.
+#[derive(Clone, Copy, PartialEq, Eq, Debug)]
 pub enum Command {
     Assign {
         place: u16,
@@ -61,7 +70,7 @@ pub enum Command {
         name: Name,
         at: u16,
         count: u16,
-        start: usize,
+        args: Nodes,
     },
     If {
         place: u16,
@@ -77,15 +86,14 @@ pub enum Command {
     Block {
         place: u16,
         count: u16,
-        start: usize,
-        routines: usize,
-        commands: usize,
+        data: Nodes,
+        routines: Nodes,
+        commands: Nodes,
     },
-    Other,
 }
 
 // The last datum below a node number: where its own nodes start, and its expression's node.
-#[derive(Clone, Copy)]
+#[derive(Clone, Copy, PartialEq, Eq, Debug)]
 pub struct Datum {
     pub start: usize,
     pub value: usize,
@@ -96,16 +104,283 @@ pub struct Datum {
     pub slot: u16,
 }
 
+// A function's body is an expression, a procedure's a command.
+#[derive(Clone, Copy, PartialEq, Eq, Debug)]
+pub enum Form {
+    Function,
+    Procedure,
+}
+
 // The last routine below a node number likewise.
-#[derive(Clone, Copy)]
+#[derive(Clone, Copy, PartialEq, Eq, Debug)]
 pub struct Routine {
     pub start: usize,
     pub node: usize,
     pub body: usize,
-    pub function: bool,
+    pub form: Form,
     pub place: u16,
     pub name: Name,
     pub at: u16,
     pub slot: u16,
     pub count: u16,
+}
+
+// The last node below a number: where its own nodes start, and its number.
+pub fn last(tree: &Tree, end: usize) -> Option<(usize, usize)>
+    ensures { FallsLast end result }
+{
+    let n = end.checked_sub(1)?;
+    let start = tree.node(n).start as usize;
+    (start < end).then_some((start, n))
+}
+
+// The last N nodes below a number, in order.
+fn below<const N: usize>(tree: &Tree, end: usize) -> Option<[usize; N]>
+    ensures { FallsBelow end result }
+{
+    let mut nodes = [0; N];
+    let mut rest = end;
+    for i in (0..N).rev() {
+        let (start, n) = last(tree, rest)?;
+        nodes[i] = n;
+        rest = start;
+    }
+    Some(nodes)
+}
+
+fn unary(tree: &Tree, n: usize, place: u16, op: Instruction) -> Option<Expr>
+    ensures { FallsExpr n result }
+{
+    let [operand] = below::<1>(tree, n)?;
+    Some(Expr::Unary { place, op, operand })
+}
+
+fn binary(tree: &Tree, n: usize, place: u16, op: Instruction) -> Option<Expr>
+    ensures { FallsExpr n result }
+{
+    let [left, right] = below::<2>(tree, n)?;
+    Some(Expr::Binary {
+        place,
+        op,
+        left,
+        right,
+    })
+}
+
+// An expression's node; none where the node is no expression's.
+pub fn expr_at(tree: &Tree, n: usize) -> Option<Expr>
+    ensures { FallsExpr n result }
+{
+    let node = tree.node(n);
+    let Info {
+        label, place, name, ..
+    } = node.info;
+    match label {
+        Label::Number(z) => Some(Expr::Literal {
+            place,
+            value: Value::Number(z),
+        }),
+        Label::Truth(b) => Some(Expr::Literal {
+            place,
+            value: Value::Truth(b),
+        }),
+        Label::Read => Some(Expr::Read { place, name }),
+        Label::Call => Some(Expr::Call {
+            place,
+            name,
+            count: node.info.count,
+            args: Nodes {
+                start: node.start as usize,
+                end: n,
+            },
+        }),
+        Label::Minus => unary(tree, n, place, Instruction::Minus),
+        Label::Not => unary(tree, n, place, Instruction::Not),
+        Label::Add => binary(tree, n, place, Instruction::Add),
+        Label::Sub => binary(tree, n, place, Instruction::Sub),
+        Label::Mul => binary(tree, n, place, Instruction::Mul),
+        Label::Equal => binary(tree, n, place, Instruction::Equal),
+        Label::Less => binary(tree, n, place, Instruction::Less),
+        Label::And => binary(tree, n, place, Instruction::And),
+        Label::Or => binary(tree, n, place, Instruction::Or),
+        Label::Choose => {
+            let [test, yes, no] = below::<3>(tree, n)?;
+            Some(Expr::Choose {
+                place,
+                test,
+                yes,
+                no,
+            })
+        }
+        Label::Let => {
+            let [value, body] = below::<2>(tree, n)?;
+            Some(Expr::Let {
+                place,
+                name,
+                value,
+                body,
+            })
+        }
+        _ => None,
+    }
+}
+
+// A command's node; none where the node is no command's.
+pub fn command_at(tree: &Tree, n: usize) -> Option<Command>
+    ensures { FallsCommand n result }
+{
+    let node = tree.node(n);
+    let start = node.start as usize;
+    let Info {
+        label,
+        place,
+        name,
+        at,
+        count,
+        ..
+    } = node.info;
+    match label {
+        Label::Assign => {
+            let [value] = below::<1>(tree, n)?;
+            Some(Command::Assign { place, name, value })
+        }
+        Label::Do => Some(Command::Do {
+            place,
+            name,
+            at,
+            count,
+            args: Nodes { start, end: n },
+        }),
+        Label::If => {
+            let [test, yes, no] = below::<3>(tree, n)?;
+            Some(Command::If {
+                place,
+                test,
+                yes,
+                no,
+            })
+        }
+        Label::While => {
+            let [test, body] = below::<2>(tree, n)?;
+            Some(Command::While { place, test, body })
+        }
+        Label::Block => {
+            let commands = n.saturating_sub(node.info.commands as usize);
+            let routines = commands.saturating_sub(node.info.routines as usize);
+            Some(Command::Block {
+                place,
+                count,
+                data: Nodes {
+                    start,
+                    end: routines,
+                },
+                routines: Nodes {
+                    start: routines,
+                    end: commands,
+                },
+                commands: Nodes {
+                    start: commands,
+                    end: n,
+                },
+            })
+        }
+        _ => None,
+    }
+}
+
+// The last datum below a number.
+pub fn datum_below(tree: &Tree, end: usize) -> Option<Datum>
+    ensures { FallsDatum end result }
+{
+    let (start, n) = last(tree, end)?;
+    let (_, value) = last(tree, n)?;
+    let info = tree.node(n).info;
+    let binding = match info.label {
+        Label::Var => Binding::Variable,
+        _ => Binding::Constant,
+    };
+    Some(Datum {
+        start,
+        value,
+        binding,
+        place: info.place,
+        name: info.name,
+        at: info.at,
+        slot: info.slot,
+    })
+}
+
+// The last routine below a number.
+pub fn routine_below(tree: &Tree, end: usize) -> Option<Routine>
+    ensures { FallsRoutine end result }
+{
+    let (start, node) = last(tree, end)?;
+    let (_, body) = last(tree, node)?;
+    let info = tree.node(node).info;
+    let form = match info.label {
+        Label::Fun => Form::Function,
+        _ => Form::Procedure,
+    };
+    Some(Routine {
+        start,
+        node,
+        body,
+        form,
+        place: info.place,
+        name: info.name,
+        at: info.at,
+        slot: info.slot,
+        count: info.count,
+    })
+}
+
+impl Routine {
+    // What it declares its name as.
+    pub(crate) fn sort(self) -> Sort {
+        match self.form {
+            Form::Function => Sort::Function(self.count),
+            Form::Procedure => Sort::Procedure(self.count),
+        }
+    }
+}
+
+impl Nodes {
+    fn is_empty(self) -> bool {
+        self.start >= self.end
+    }
+
+    // The last of them, and those before it.
+    pub(crate) fn split_last(self, tree: &Tree) -> Option<(usize, Nodes)>
+        ensures { FallsSplit self.end result }
+    {
+        if self.is_empty() {
+            return None;
+        }
+        let (end, n) = last(tree, self.end)?;
+        Some((n, Nodes { end, ..self }))
+    }
+
+    // The last of them as a datum, and those before it.
+    pub(crate) fn split_datum(self, tree: &Tree) -> Option<(Datum, Nodes)>
+        ensures { FallsSplitDatum self.end result }
+    {
+        if self.is_empty() {
+            return None;
+        }
+        let datum = datum_below(tree, self.end)?;
+        let end = datum.start;
+        Some((datum, Nodes { end, ..self }))
+    }
+
+    // The last of them as a routine, and those before it.
+    pub(crate) fn split_routine(self, tree: &Tree) -> Option<(Routine, Nodes)>
+        ensures { FallsSplitRoutine self.end result }
+    {
+        if self.is_empty() {
+            return None;
+        }
+        let routine = routine_below(tree, self.end)?;
+        let end = routine.start;
+        Some((routine, Nodes { end, ..self }))
+    }
 }

@@ -1,86 +1,38 @@
-use crate::record::{Found, Sort};
+use crate::record::Sort;
 use lang::refusal::{Refusal, Refused};
 
-// One violation more: of all, the one with the earliest place is kept, then the one with the lowest number.
-pub fn note(least: Option<Refused>, place: u16, why: Refusal) -> Option<Refused> {
-    match least {
-        None => Some(Refused { why, place }),
-        Some(old) => {
-            if place < old.place || (place == old.place && why.code() < old.why.code()) {
-                Some(Refused { why, place })
-            } else {
-                Some(old)
+// How a name is used; a call with its count of args.
+#[derive(Clone, Copy, PartialEq, Eq, Debug)]
+pub enum Use {
+    Value,
+    Variable,
+    Function(u16),
+    Procedure(u16),
+}
+
+impl Use {
+    // Whether a name of that sort may be used so.
+    pub fn check(self, sort: Sort) -> Result<(), Refusal> {
+        match (self, sort) {
+            (Use::Value, Sort::Constant | Sort::Variable) => Ok(()),
+            (Use::Variable, Sort::Variable) => Ok(()),
+            (Use::Function(args), Sort::Function(params))
+            | (Use::Procedure(args), Sort::Procedure(params)) => {
+                if args == params {
+                    Ok(())
+                } else {
+                    Err(Refusal::WrongCount)
+                }
             }
+            _ => Err(Refusal::WrongSort),
         }
     }
 }
 
-// A name is read: it has to be a constant or a variable.
-pub fn as_value(found: Option<Found>, place: u16, least: Option<Refused>) -> Option<Refused> {
-    match found {
-        None => note(least, place, Refusal::NotVisible),
-        Some(f) => match f.sort {
-            Sort::Constant => least,
-            Sort::Variable => least,
-            Sort::Function(_) => note(least, place, Refusal::WrongSort),
-            Sort::Procedure(_) => note(least, place, Refusal::WrongSort),
-        },
-    }
-}
-
-// A name is assigned: it has to be a variable.
-pub fn as_variable(found: Option<Found>, place: u16, least: Option<Refused>) -> Option<Refused> {
-    match found {
-        None => note(least, place, Refusal::NotVisible),
-        Some(f) => match f.sort {
-            Sort::Variable => least,
-            Sort::Constant => note(least, place, Refusal::WrongSort),
-            Sort::Function(_) => note(least, place, Refusal::WrongSort),
-            Sort::Procedure(_) => note(least, place, Refusal::WrongSort),
-        },
-    }
-}
-
-fn with_count(declared: u16, count: u16, place: u16, least: Option<Refused>) -> Option<Refused> {
-    if declared == count {
-        least
-    } else {
-        note(least, place, Refusal::WrongCount)
-    }
-}
-
-// A name is called in an expression: it has to be a function with that count of parameters.
-pub fn as_function(
-    found: Option<Found>,
-    count: u16,
-    place: u16,
-    least: Option<Refused>,
-) -> Option<Refused> {
-    match found {
-        None => note(least, place, Refusal::NotVisible),
-        Some(f) => match f.sort {
-            Sort::Function(declared) => with_count(declared, count, place, least),
-            Sort::Procedure(_) => note(least, place, Refusal::WrongSort),
-            Sort::Constant => note(least, place, Refusal::WrongSort),
-            Sort::Variable => note(least, place, Refusal::WrongSort),
-        },
-    }
-}
-
-// A name is called by a command: it has to be a procedure with that count of parameters.
-pub fn as_procedure(
-    found: Option<Found>,
-    count: u16,
-    place: u16,
-    least: Option<Refused>,
-) -> Option<Refused> {
-    match found {
-        None => note(least, place, Refusal::NotVisible),
-        Some(f) => match f.sort {
-            Sort::Procedure(declared) => with_count(declared, count, place, least),
-            Sort::Function(_) => note(least, place, Refusal::WrongSort),
-            Sort::Constant => note(least, place, Refusal::WrongSort),
-            Sort::Variable => note(least, place, Refusal::WrongSort),
-        },
+// The lesser of two violations: the one at the earlier place, then the one with the lower number.
+pub fn lesser(a: Option<Refused>, b: Option<Refused>) -> Option<Refused> {
+    match (a, b) {
+        (Some(a), Some(b)) => Some(a.min(b)),
+        (a, b) => a.or(b),
     }
 }

@@ -1,12 +1,15 @@
-ghost use Rattle.std.specs.Prelude.{◌≡◌, ◌<◌, true, false, length, Some, None, MatchResult};
+ghost use Rattle.std.specs.Prelude.{◌≡◌, true, false, length, Some, None, MatchResult};
 ghost use Rattle.lang.specs.Refusals.{number};
 ghost use Rattle.frames.specs.Frames.{none, ◌▷◌, fresh, got, opened};
 ghost use Rattle.meaning.specs.Machine.{act, fetched};
-ghost use Rattle.machine.specs.Shows.{seen, Ready, Did, acted, Counted, short, idle, start_frames, Begun, value_got};
+ghost use Rattle.machine.specs.Shows.{seen, seen_at, Ready, Did, acted, Counted, short, idle, start_frames, Begun, value_got};
 ghost use Rattle.machine.specs.Runs.{Counted as CountedBy, Steps, Runs};
 
-use crate::machine::Machine;
-use crate::outcome::{Act, Outcome, Ran, Step};
+use crate::machine::{MOST_RETURNS, MOST_VALUES, Machine, Position};
+use crate::operators::{
+    added, both, either, equal, less, multiplied, negated, opposite, subtracted,
+};
+use crate::outcome::{Halt, Outcome, Ran, Step};
 use frames::memory::{BuildFrames, ReadFrames};
 use lang::code::Code;
 use lang::fault::Fault;
@@ -22,9 +25,9 @@ pub const MOST_STEPS: u32 = 1_000_000;
 fn put_all<F: BuildFrames + Drop>(frames: &mut F, values: &[Value])
     ensures { F.ReadFrames.sound frames.old → F.ReadFrames.frames frames.old ≡ none ▷ fresh (length values.now) None → F.ReadFrames.sound frames.new × (F.ReadFrames.frames frames.new ≡ start_frames values.now) }
 {
-    for o in 0..values.len() {
+    for (offset, v) in values.iter().enumerate() {
         // the frame has a slot for each value
-        let _ = frames.put(0, o, values[o].slot());
+        let _ = frames.put(0, offset, Slot::from(*v));
     }
 }
 
@@ -39,7 +42,7 @@ impl<'m, F: BuildFrames + Drop> Machine<'m, F> {
             (λ m. (short (length values.old) (length returns.old) ≡ false) × (seen F.ReadFrames.frames m ≡ idle (F.ReadFrames.frames frames)) × (F.ReadFrames.sound frames → Ready F.ReadFrames.sound m))
             (λ e. (short (length values.old) (length returns.old) ≡ true) × (number e ≡ 1)) }
     {
-        if values.len() < 512 || returns.len() < 256 {
+        if values.len() < MOST_VALUES || returns.len() < MOST_RETURNS {
             return Err(Refusal::ShortMemory);
         }
         Ok(Machine {
@@ -83,65 +86,61 @@ impl<'m, F: BuildFrames + Drop> Machine<'m, F> {
     pub fn entry(&self, k: usize) -> Option<Value>
         ensures { Ready F.ReadFrames.sound self.now → result ≡ value_got (got (F.ReadFrames.frames self.now.frames) 0 k) }
     {
-        match self.frames.get(0, k) {
-            Ok(slot) => slot.value(),
-            Err(_) => None,
-        }
+        self.value_at(0, k)
     }
 
-    // What one instruction does.
-    fn perform(&mut self, what: Instruction) -> Act
-        requires { self.old.at < 65535 }
-        ensures { Did F.ReadFrames.sound F.ReadFrames.frames self.old self.new result (act what) }
+    // What one instruction does; the position that it leads to.
+    fn perform(&mut self, here: Position, what: Instruction) -> Result<usize, Halt>
+        ensures { Did F.ReadFrames.sound F.ReadFrames.frames here.at self.old self.new result (act what) }
     {
         match what {
-            Instruction::Push(v) => self.give(v),
-            Instruction::Load { hops, offset } => self.load(hops, offset),
-            Instruction::Minus => self.minus(),
-            Instruction::Not => self.not(),
-            Instruction::Add => self.add(),
-            Instruction::Sub => self.sub(),
-            Instruction::Mul => self.mul(),
-            Instruction::Equal => self.equal(),
-            Instruction::Less => self.less(),
-            Instruction::And => self.and(),
-            Instruction::Or => self.or(),
-            Instruction::Pick { by } => self.pick(by),
-            Instruction::Fork { by } => self.pick(by),
-            Instruction::Skip { by } => self.skip(by),
-            Instruction::Leave { by } => self.pick(by),
-            Instruction::Again { by } => self.again(by),
-            Instruction::Open { slots } => self.open(slots),
-            Instruction::Fill { offset, .. } => self.fill(offset),
-            Instruction::Shut => self.shut(),
-            Instruction::Fun { offset, by, .. } => self.routine(offset, by),
-            Instruction::Proc { offset, by, .. } => self.routine(offset, by),
+            Instruction::Push(v) => self.give(here, v),
+            Instruction::Load { hops, offset } => self.load(here, hops, offset),
+            Instruction::Minus => self.unary(here, opposite),
+            Instruction::Not => self.unary(here, negated),
+            Instruction::Add => self.binary(here, added),
+            Instruction::Sub => self.binary(here, subtracted),
+            Instruction::Mul => self.binary(here, multiplied),
+            Instruction::Equal => self.binary(here, equal),
+            Instruction::Less => self.binary(here, less),
+            Instruction::And => self.binary(here, both),
+            Instruction::Or => self.binary(here, either),
+            Instruction::Pick { by } | Instruction::Fork { by } | Instruction::Leave { by } => {
+                self.pick(here, by)
+            }
+            Instruction::Skip { by } => Ok(here.ahead(by)),
+            Instruction::Again { by } => Ok(here.before(by)),
+            Instruction::Open { slots } => self.open(here, slots),
+            Instruction::Fill { offset, .. } => self.fill(here, offset),
+            Instruction::Shut => self.shut(here),
+            Instruction::Fun { offset, by, .. } | Instruction::Proc { offset, by, .. } => {
+                self.routine(here, offset, by)
+            }
             Instruction::Call {
                 hops,
                 offset,
                 count,
-            } => self.call(hops, offset, count),
-            Instruction::Do {
+            }
+            | Instruction::Do {
                 hops,
                 offset,
                 count,
-            } => self.call(hops, offset, count),
-            Instruction::Back => self.back(),
-            Instruction::Store { hops, offset } => self.store(hops, offset),
-            Instruction::Let => self.open(1),
+            } => self.call(here, hops, offset, count),
+            Instruction::Back => self.back(here),
+            Instruction::Store { hops, offset } => self.store(here, hops, offset),
+            Instruction::Let => self.open(here, 1),
         }
     }
 
     // A step is counted, then checked; with all steps done the next is a fault and not counted.
-    fn counted(&mut self, what: Instruction) -> Act
-        requires { self.old.at < 65535 }
-        ensures { Counted result self.old.steps self.new.steps × (Ready F.ReadFrames.sound self.old → Ready F.ReadFrames.sound self.new × ((p : _) → acted result p (seen F.ReadFrames.frames self.new) ≡ fetched (Some (what, p)) (seen F.ReadFrames.frames self.old))) }
+    fn counted(&mut self, here: Position, what: Instruction) -> Result<usize, Halt>
+        ensures { Counted result self.old.steps self.new.steps × (Ready F.ReadFrames.sound self.old → Ready F.ReadFrames.sound self.new × ((p : _) → acted result p (seen F.ReadFrames.frames self.new) ≡ fetched (Some (what, p)) (seen_at here.at F.ReadFrames.frames self.old))) }
     {
         if self.steps >= MOST_STEPS {
-            return Act::Stop(Fault::Steps);
+            return Err(Halt::Fault(Fault::Steps));
         }
         self.steps += 1;
-        self.perform(what)
+        self.perform(here, what)
     }
 
     // One step.
@@ -149,21 +148,22 @@ impl<'m, F: BuildFrames + Drop> Machine<'m, F> {
         ensures { CountedBy result self.old.steps self.new.steps × Steps F.ReadFrames.sound F.ReadFrames.frames code.now self.old self.new result }
     {
         let at = self.at;
-        match code.instruction(at) {
-            None => Step::Ended,
-            Some(what) => {
-                if at >= 65535 {
-                    return Step::Stuck; // no rule has so many instructions
-                }
-                match self.counted(what) {
-                    Act::On => Step::On,
-                    Act::Stuck => Step::Stuck,
-                    Act::Stop(fault) => match code.place(at) {
-                        Some(place) => Step::Stop { fault, place },
-                        None => Step::Stuck, // each instruction has a place
-                    },
-                }
+        let Some(what) = code.instruction(at) else {
+            return Step::Ended;
+        };
+        let Some(here) = Position::new(at) else {
+            return Step::Stuck; // no rule has so many instructions
+        };
+        match self.counted(here, what) {
+            Ok(next) => {
+                self.at = next;
+                Step::On
             }
+            Err(Halt::Stuck) => Step::Stuck,
+            Err(Halt::Fault(fault)) => match code.place(at) {
+                Some(place) => Step::Stop { fault, place },
+                None => Step::Stuck, // each instruction has a place
+            },
         }
     }
 
@@ -172,22 +172,17 @@ impl<'m, F: BuildFrames + Drop> Machine<'m, F> {
         ensures { Runs F.ReadFrames.sound F.ReadFrames.frames code.now budget self.old self.new result }
     {
         let before = self.steps;
-        for i in 0..budget {
-            match self.step(code) {
-                Step::On => {}
-                Step::Ended => return Ran {
-                    outcome: Outcome::Done,
-                    steps: i,
-                },
-                Step::Stop { fault, place } => return Ran {
-                    outcome: Outcome::Fault { fault, place },
-                    steps: self.steps - before,
-                },
-                Step::Stuck => return Ran {
-                    outcome: Outcome::Stuck,
-                    steps: i,
-                },
-            }
+        for _ in 0..budget {
+            let outcome = match self.step(code) {
+                Step::On => continue,
+                Step::Ended => Outcome::Done,
+                Step::Stop { fault, place } => Outcome::Fault { fault, place },
+                Step::Stuck => Outcome::Stuck,
+            };
+            return Ran {
+                outcome,
+                steps: self.steps - before,
+            };
         }
         let outcome = if self.at < code.len() {
             Outcome::Paused

@@ -1,13 +1,8 @@
-ghost use Rattle.std.specs.Prelude.{◌≡◌, ◌<◌, length};
-ghost use Rattle.lang.specs.Stacks.{held, room};
-ghost use Rattle.meaning.specs.Machine.{act, pushed, gives, branched};
-ghost use Rattle.machine.specs.Shows.{Did, Took};
+ghost use Rattle.meaning.specs.Machine.{act, pushed, on_one, on_two, branched};
+ghost use Rattle.machine.specs.Shows.{Did, Took, ComputesOne, ComputesTwo};
 
-use crate::machine::Machine;
-use crate::operators::{
-    added, both, either, equal, less, multiplied, negated, opposite, subtracted,
-};
-use crate::outcome::Act;
+use crate::machine::{MOST_VALUES, Machine, Position};
+use crate::outcome::Halt;
 use frames::memory::{BuildFrames, ReadFrames};
 use lang::fault::Fault;
 use lang::instruction::Instruction;
@@ -18,166 +13,61 @@ use lang::value::Value;
 fn take_two(values: &mut Stack<Value>) -> Option<(Value, Value)>
     ensures { Took result values.old values.new }
 {
-    let q = values.pop();
-    let p = values.pop();
-    match (p, q) {
-        (Some(p), Some(q)) => Some((p, q)),
-        _ => None,
-    }
+    let q = values.pop()?;
+    let p = values.pop()?;
+    Some((p, q))
 }
 
-// The instructions that work on the waiting values alone. In checked code the operands wait.
+// The instructions that work on the waiting values alone. In checked code the operands wait. Each answers the position
+// of the next instruction.
 impl<'m, F: BuildFrames + Drop> Machine<'m, F> {
     // One more value waits.
-    pub(super) fn give(&mut self, v: Value) -> Act
-        requires { self.old.at < 65535 }
-        ensures { Did F.ReadFrames.sound F.ReadFrames.frames self.old self.new result (pushed v) }
+    pub(super) fn give(&mut self, here: Position, v: Value) -> Result<usize, Halt>
+        ensures { Did F.ReadFrames.sound F.ReadFrames.frames here.at self.old self.new result (pushed v) }
     {
-        if self.values.len() >= 512 {
-            return Act::Stop(Fault::Values);
+        if self.values.len() >= MOST_VALUES {
+            return Err(Halt::Fault(Fault::Values));
         }
-        if !self.values.push(v) {
-            return Act::Stuck; // there is room for 512
-        }
-        self.at += 1;
-        Act::On
+        self.values.push(v)?; // there is room for 512
+        Ok(here.next())
     }
 
-    // A result in the place of its operands.
-    fn settle(&mut self, res: Result<Value, Fault>) -> Act
-        requires { self.old.at < 65535 }
-        ensures { length (held self.old.values) < room self.old.values → Did F.ReadFrames.sound F.ReadFrames.frames self.old self.new result (λ p m. gives res m.values p m) }
+    // A result in the place of its operand.
+    pub(super) fn unary<O: FnOnce(Value) -> Result<Value, Fault>>(
+        &mut self,
+        here: Position,
+        operate: O,
+    ) -> Result<usize, Halt>
+        requires { O.IsAlwaysCallable operate }
+        ensures { (f : _) → ComputesOne (O.post operate) f → Did F.ReadFrames.sound F.ReadFrames.frames here.at self.old self.new result (λ p m. on_one f m.values p m) }
     {
-        match res {
-            Err(fault) => Act::Stop(fault),
-            Ok(v) => {
-                if !self.values.push(v) {
-                    return Act::Stuck; // the operands have left room
-                }
-                self.at += 1;
-                Act::On
-            }
-        }
+        let v = self.values.pop().ok_or(Halt::Stuck)?;
+        self.values.push(operate(v)?)?; // the operand has left room
+        Ok(here.next())
     }
 
-    pub(super) fn minus(&mut self) -> Act
-        requires { self.old.at < 65535 }
-        ensures { Did F.ReadFrames.sound F.ReadFrames.frames self.old self.new result (act Instruction.Minus) }
+    // A result in the place of its two operands.
+    pub(super) fn binary<O: FnOnce(Value, Value) -> Result<Value, Fault>>(
+        &mut self,
+        here: Position,
+        operate: O,
+    ) -> Result<usize, Halt>
+        requires { O.IsAlwaysCallable operate }
+        ensures { (f : _) → ComputesTwo (O.post operate) f → Did F.ReadFrames.sound F.ReadFrames.frames here.at self.old self.new result (λ p m. on_two f m.values p m) }
     {
-        match self.values.pop() {
-            Some(v) => self.settle(opposite(v)),
-            None => Act::Stuck,
-        }
-    }
-
-    pub(super) fn not(&mut self) -> Act
-        requires { self.old.at < 65535 }
-        ensures { Did F.ReadFrames.sound F.ReadFrames.frames self.old self.new result (act Instruction.Not) }
-    {
-        match self.values.pop() {
-            Some(v) => self.settle(negated(v)),
-            None => Act::Stuck,
-        }
-    }
-
-    pub(super) fn add(&mut self) -> Act
-        requires { self.old.at < 65535 }
-        ensures { Did F.ReadFrames.sound F.ReadFrames.frames self.old self.new result (act Instruction.Add) }
-    {
-        match take_two(&mut self.values) {
-            Some((p, q)) => self.settle(added(p, q)),
-            None => Act::Stuck,
-        }
-    }
-
-    pub(super) fn sub(&mut self) -> Act
-        requires { self.old.at < 65535 }
-        ensures { Did F.ReadFrames.sound F.ReadFrames.frames self.old self.new result (act Instruction.Sub) }
-    {
-        match take_two(&mut self.values) {
-            Some((p, q)) => self.settle(subtracted(p, q)),
-            None => Act::Stuck,
-        }
-    }
-
-    pub(super) fn mul(&mut self) -> Act
-        requires { self.old.at < 65535 }
-        ensures { Did F.ReadFrames.sound F.ReadFrames.frames self.old self.new result (act Instruction.Mul) }
-    {
-        match take_two(&mut self.values) {
-            Some((p, q)) => self.settle(multiplied(p, q)),
-            None => Act::Stuck,
-        }
-    }
-
-    pub(super) fn equal(&mut self) -> Act
-        requires { self.old.at < 65535 }
-        ensures { Did F.ReadFrames.sound F.ReadFrames.frames self.old self.new result (act Instruction.Equal) }
-    {
-        match take_two(&mut self.values) {
-            Some((p, q)) => self.settle(equal(p, q)),
-            None => Act::Stuck,
-        }
-    }
-
-    pub(super) fn less(&mut self) -> Act
-        requires { self.old.at < 65535 }
-        ensures { Did F.ReadFrames.sound F.ReadFrames.frames self.old self.new result (act Instruction.Less) }
-    {
-        match take_two(&mut self.values) {
-            Some((p, q)) => self.settle(less(p, q)),
-            None => Act::Stuck,
-        }
-    }
-
-    pub(super) fn and(&mut self) -> Act
-        requires { self.old.at < 65535 }
-        ensures { Did F.ReadFrames.sound F.ReadFrames.frames self.old self.new result (act Instruction.And) }
-    {
-        match take_two(&mut self.values) {
-            Some((p, q)) => self.settle(both(p, q)),
-            None => Act::Stuck,
-        }
-    }
-
-    pub(super) fn or(&mut self) -> Act
-        requires { self.old.at < 65535 }
-        ensures { Did F.ReadFrames.sound F.ReadFrames.frames self.old self.new result (act Instruction.Or) }
-    {
-        match take_two(&mut self.values) {
-            Some((p, q)) => self.settle(either(p, q)),
-            None => Act::Stuck,
-        }
+        let (u, v) = take_two(&mut self.values).ok_or(Halt::Stuck)?;
+        self.values.push(operate(u, v)?)?; // the operands have left room
+        Ok(here.next())
     }
 
     // Goes on by a distance if the newest value is false.
-    pub(super) fn pick(&mut self, by: u16) -> Act
-        requires { self.old.at < 65535 }
-        ensures { Did F.ReadFrames.sound F.ReadFrames.frames self.old self.new result (λ p m. branched by m.values p m) }
+    pub(super) fn pick(&mut self, here: Position, by: u16) -> Result<usize, Halt>
+        ensures { Did F.ReadFrames.sound F.ReadFrames.frames here.at self.old self.new result (λ p m. branched by m.values p m) }
     {
-        match self.values.pop() {
-            None => Act::Stuck,
-            Some(Value::Number(_)) => Act::Stop(Fault::Kind),
-            Some(Value::Truth(b)) => {
-                self.at += if b { 1 } else { by as usize };
-                Act::On
-            }
+        match self.values.pop().ok_or(Halt::Stuck)? {
+            Value::Number(_) => Err(Halt::Fault(Fault::Kind)),
+            Value::Truth(true) => Ok(here.next()),
+            Value::Truth(false) => Ok(here.ahead(by)),
         }
-    }
-
-    pub(super) fn skip(&mut self, by: u16) -> Act
-        requires { self.old.at < 65535 }
-        ensures { Did F.ReadFrames.sound F.ReadFrames.frames self.old self.new result (act (Instruction.Skip by)) }
-    {
-        self.at += by as usize;
-        Act::On
-    }
-
-    // Goes back by a distance.
-    pub(super) fn again(&mut self, by: u16) -> Act
-        ensures { Did F.ReadFrames.sound F.ReadFrames.frames self.old self.new result (act (Instruction.Again by)) }
-    {
-        self.at = self.at.saturating_sub(by as usize);
-        Act::On
     }
 }

@@ -1,14 +1,22 @@
-ghost use Rattle.reader.specs.Looking.{Kept};
+ghost use Rattle.reader.specs.Looking.{Ends};
 
+use crate::grammar::Reader;
 use crate::node::{Info, Label, NO_INFO, NO_PARAM, Node, Param};
-use crate::tree::Tree;
 use lang::narrow::short;
 
-// The parameters of a routine: the first nine, and how many there are.
+// Where a construct begins: the place of its first word, and the number of its first node.
+#[derive(Clone, Copy)]
+pub struct Start {
+    place: u16,
+    first: u16,
+}
+
+// The parameters of a routine: the first nine, and how many there are. An array as in the node, since there is no
+// heap here, and a text that has a ninth is refused.
 #[derive(Clone, Copy)]
 pub struct Params {
-    pub first: [Param; 9],
-    pub count: u16,
+    first: [Param; 9],
+    count: u16,
 }
 
 impl Params {
@@ -22,87 +30,63 @@ impl Params {
 
     // One parameter more; past the ninth it is only counted.
     pub fn add(&mut self, param: Param) {
-        let at = self.count as usize;
-        if at < 9 {
-            self.first[at] = param;
+        if let Some(free) = self.first.get_mut(self.count as usize) {
+            *free = param;
         }
         self.count = self.count.saturating_add(1);
     }
 }
 
-// A construct of a label at a place.
-pub fn plain(label: Label, place: u16) -> Info {
-    Info {
-        label,
-        place,
-        ..NO_INFO
-    }
+// A construct of a label.
+pub fn plain(label: Label) -> Info {
+    Info { label, ..NO_INFO }
 }
 
 // A construct with a name.
-pub fn named(label: Label, place: u16, name: Param) -> Info {
+pub fn named(label: Label, name: Param) -> Info {
     Info {
         label,
-        place,
         name: name.name,
         at: name.at,
         ..NO_INFO
     }
 }
 
-// Ends a node whose own nodes begin at a number.
-pub fn push(tree: &mut Tree, info: Info, start: usize)
-    ensures { Kept tree.old tree.new }
-{
-    tree.push(Node {
-        info,
-        start: short(start),
-    });
-}
-
-// Ends a node that has no nodes of its own.
-pub fn push_leaf(tree: &mut Tree, info: Info)
-    ensures { Kept tree.old tree.new }
-{
-    let start = tree.len();
-    push(tree, info, start);
-}
-
-// Ends the node of a routine.
-pub fn push_routine(
-    tree: &mut Tree,
-    label: Label,
-    place: u16,
-    name: Param,
-    params: Params,
-    slot: u16,
-    start: usize,
-)
-    ensures { Kept tree.old tree.new }
-{
-    let mut info = named(label, place, name);
-    info.count = params.count;
-    info.slot = slot;
+// A routine.
+pub fn routine(label: Label, name: Param, params: Params, slot: u16) -> Info {
     let first = params.first;
-    info.params = first;
-    push(tree, info, start);
+    Info {
+        count: params.count,
+        slot,
+        params: first,
+        ..named(label, name)
+    }
 }
 
-// Ends the node of a block whose routines and commands begin at these numbers.
-pub fn push_block(
-    tree: &mut Tree,
-    place: u16,
-    count: u16,
-    routines: usize,
-    commands: usize,
-    start: usize,
-)
-    ensures { Kept tree.old tree.new }
-{
-    let end = tree.len();
-    let mut info = plain(Label::Block, place);
-    info.count = count;
-    info.routines = short(commands.saturating_sub(routines));
-    info.commands = short(end.saturating_sub(commands));
-    push(tree, info, start);
+impl<'t, 'm> Reader<'t, 'm> {
+    // Where a construct begins that begins with the word looked at.
+    pub fn start(&self) -> Start {
+        Start {
+            place: self.here(),
+            first: short(self.tree.len()),
+        }
+    }
+
+    // How many nodes there are from a number on.
+    pub fn nodes_since(&self, first: usize) -> u16 {
+        short(self.tree.len().saturating_sub(first))
+    }
+
+    // Ends a construct: its node follows those of its parts.
+    pub fn end(&mut self, start: Start, info: Info)
+        ensures { Ends self.old self.new }
+    {
+        self.tree.push(Node {
+            info: Info {
+                place: start.place,
+                ..info
+            },
+            start: start.first,
+        });
+    }
 }

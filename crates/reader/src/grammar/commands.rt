@@ -1,19 +1,19 @@
 ghost use Rattle.std.specs.Prelude.{◌≡◌};
-ghost use Rattle.reader.specs.Looking.{Gone, Lists, Kept};
+ghost use Rattle.reader.specs.Looking.{Gone, Lists, Grew};
 
 use crate::grammar::Reader;
-use crate::grammar::build::{named, plain, push, push_block, push_routine};
-use crate::node::Label;
-use crate::tree::Tree;
+use crate::grammar::begins::Line;
+use crate::grammar::build::{named, plain, routine};
+use crate::node::{Info, Label};
 use lang::refusal::Refused;
 use lang::word::Kind;
 
-impl<'t> Reader<'t> {
+impl<'t, 'm> Reader<'t, 'm> {
     // A rule: one command, and the end of the text.
-    pub fn rule(&mut self, tree: &mut Tree) -> Result<(), Refused>
-        ensures { Kept tree.old tree.new }
+    pub fn rule(&mut self) -> Result<(), Refused>
+        ensures { Grew self.old self.new }
     {
-        self.command(tree)?;
+        self.command()?;
         if self.ended() {
             Ok(())
         } else {
@@ -23,187 +23,163 @@ impl<'t> Reader<'t> {
 
     // command: block | assignment | call | if | while
     #[cycle(command_lines)]
-    pub fn command(&mut self, tree: &mut Tree) -> Result<(), Refused>
-        ensures read { Gone self.old self.new result }
-        ensures kept { Kept tree.old tree.new }
+    pub fn command(&mut self) -> Result<(), Refused>
+        ensures { Gone self.old self.new result }
     {
-        self.enter_command()?;
-        self.form(tree)?;
+        self.enter(Line::Command)?;
+        self.form()?;
         self.leave();
         Ok(())
     }
 
     // What a command is, by its first word.
     #[cycle(command_lines)]
-    fn form(&mut self, tree: &mut Tree) -> Result<(), Refused>
-        ensures read { Gone self.old self.new result }
-        ensures kept { Kept tree.old tree.new }
+    fn form(&mut self) -> Result<(), Refused>
+        ensures { Gone self.old self.new result }
     {
-        if self.next_is(Kind::OpenBrace) {
-            return self.block(tree);
+        match self.kind() {
+            Some(Kind::OpenBrace) => self.block(),
+            Some(Kind::If) => self.choice(),
+            Some(Kind::While) => self.repeat(),
+            Some(Kind::Call) => self.act(),
+            _ => self.assign(),
         }
-        if self.next_is(Kind::If) {
-            return self.choice(tree);
-        }
-        if self.next_is(Kind::While) {
-            return self.repeat(tree);
-        }
-        if self.next_is(Kind::Call) {
-            return self.act(tree);
-        }
-        self.assign(tree)
     }
 
     // name ':=' expr ';'
-    fn assign(&mut self, tree: &mut Tree) -> Result<(), Refused>
-        ensures read { Gone self.old self.new result }
-        ensures kept { Kept tree.old tree.new }
+    fn assign(&mut self) -> Result<(), Refused>
+        ensures { Gone self.old self.new result }
     {
-        let start = tree.len();
+        let start = self.start();
         let name = self.name()?;
         self.expect(Kind::Becomes)?;
-        self.expr(tree)?;
+        self.expr()?;
         self.expect(Kind::Semicolon)?;
-        push(tree, named(Label::Assign, name.at, name), start);
+        self.end(start, named(Label::Assign, name));
         Ok(())
     }
 
     // 'call' name '(' args ')' ';'
-    fn act(&mut self, tree: &mut Tree) -> Result<(), Refused>
-        ensures read { Gone self.old self.new result }
-        ensures kept { Kept tree.old tree.new }
+    fn act(&mut self) -> Result<(), Refused>
+        ensures { Gone self.old self.new result }
     {
-        let place = self.here();
-        let start = tree.len();
+        let start = self.start();
         self.expect(Kind::Call)?;
         let name = self.name()?;
-        self.call(tree, Label::Do, place, name, start)?;
+        self.call(Label::Do, name, start)?;
         self.expect(Kind::Semicolon)
     }
 
-    // 'if' expr 'then' command 'else' command
+    // 'if' expr 'then' command 'else' command. One line for this and `choose` would be no plainer: it would make the
+    // commands and the expressions one cycle of thirty calls.
     #[cycle(command_lines)]
-    fn choice(&mut self, tree: &mut Tree) -> Result<(), Refused>
-        ensures read { Gone self.old self.new result }
-        ensures kept { Kept tree.old tree.new }
+    fn choice(&mut self) -> Result<(), Refused>
+        ensures { Gone self.old self.new result }
     {
-        let place = self.here();
-        let start = tree.len();
+        let start = self.start();
         self.expect(Kind::If)?;
-        self.expr(tree)?;
+        self.expr()?;
         self.expect(Kind::Then)?;
-        self.command(tree)?;
+        self.command()?;
         self.expect(Kind::Else)?;
-        self.command(tree)?;
-        push(tree, plain(Label::If, place), start);
+        self.command()?;
+        self.end(start, plain(Label::If));
         Ok(())
     }
 
     // 'while' expr 'do' command
     #[cycle(command_lines)]
-    fn repeat(&mut self, tree: &mut Tree) -> Result<(), Refused>
-        ensures read { Gone self.old self.new result }
-        ensures kept { Kept tree.old tree.new }
+    fn repeat(&mut self) -> Result<(), Refused>
+        ensures { Gone self.old self.new result }
     {
-        let place = self.here();
-        let start = tree.len();
+        let start = self.start();
         self.expect(Kind::While)?;
-        self.expr(tree)?;
+        self.expr()?;
         self.expect(Kind::Do)?;
-        self.command(tree)?;
-        push(tree, plain(Label::While, place), start);
+        self.command()?;
+        self.end(start, plain(Label::While));
         Ok(())
     }
 
     // block: '{' datum.. routine.. command.. '}'
     #[cycle(command_lines)]
-    fn block(&mut self, tree: &mut Tree) -> Result<(), Refused>
-        ensures read { Gone self.old self.new result }
-        ensures kept { Kept tree.old tree.new }
+    fn block(&mut self) -> Result<(), Refused>
+        ensures { Gone self.old self.new result }
     {
-        let place = self.here();
-        let start = tree.len();
+        let start = self.start();
         self.expect(Kind::OpenBrace)?;
-        let data = self.data(tree)?;
-        let routines = tree.len();
-        let slots = self.routines(tree, data)?;
-        let commands = tree.len();
-        self.commands(tree)?;
+        let data = self.data()?;
+        let first_routine = self.tree.len();
+        let count = self.routines(data)?;
+        let routines = self.nodes_since(first_routine);
+        let first_command = self.tree.len();
+        self.commands()?;
+        let commands = self.nodes_since(first_command);
         self.expect(Kind::CloseBrace)?;
-        push_block(tree, place, slots, routines, commands, start);
+        let info = Info {
+            count,
+            routines,
+            commands,
+            ..plain(Label::Block)
+        };
+        self.end(start, info);
         Ok(())
     }
 
     // routine..: how many slots there are with these.
     #[cycle(command_lines)]
-    fn routines(&mut self, tree: &mut Tree, data: u16) -> Result<u16, Refused>
-        ensures read { Lists self.old self.new result }
-        ensures kept { Kept tree.old tree.new }
+    fn routines(&mut self, data: u16) -> Result<u16, Refused>
+        ensures { Lists self.old self.new result }
     {
         let mut slot = data;
-        while self.routine_here() {
-            self.routine(tree, slot)?;
+        while let Some(label) = self.routine_word() {
+            self.routine(label, slot)?;
             slot = slot.saturating_add(1);
         }
         Ok(slot)
     }
 
-    // Whether a routine begins here.
-    fn routine_here(&self) -> bool {
-        self.next_is(Kind::Fun) || self.next_is(Kind::Proc)
-    }
-
-    // What a routine is, by its first word.
-    #[cycle(command_lines)]
-    fn routine(&mut self, tree: &mut Tree, slot: u16) -> Result<(), Refused>
-        ensures read { Gone self.old self.new result }
-        ensures kept { Kept tree.old tree.new }
-    {
-        if self.next_is(Kind::Fun) {
-            return self.function(tree, slot);
+    // 'fun' or 'proc', if one of them stands here.
+    fn routine_word(&self) -> Option<Label> {
+        match self.kind()? {
+            Kind::Fun => Some(Label::Fun),
+            Kind::Proc => Some(Label::Proc),
+            _ => None,
         }
-        self.procedure(tree, slot)
     }
 
-    // 'fun' name '(' names ')' '=' expr ';'
-    fn function(&mut self, tree: &mut Tree, slot: u16) -> Result<(), Refused>
-        ensures read { Gone self.old self.new result }
-        ensures kept { Kept tree.old tree.new }
-    {
-        let place = self.here();
-        let start = tree.len();
-        self.expect(Kind::Fun)?;
-        let name = self.name()?;
-        let params = self.params()?;
-        self.answer(tree)?;
-        push_routine(tree, Label::Fun, place, name, params, slot, start);
-        Ok(())
-    }
-
-    // 'proc' name '(' names ')' command
+    // routine: 'fun' name '(' names ')' '=' expr ';' | 'proc' name '(' names ')' command
     #[cycle(command_lines)]
-    fn procedure(&mut self, tree: &mut Tree, slot: u16) -> Result<(), Refused>
-        ensures read { Gone self.old self.new result }
-        ensures kept { Kept tree.old tree.new }
+    fn routine(&mut self, label: Label, slot: u16) -> Result<(), Refused>
+        ensures { Gone self.old self.new result }
     {
-        let place = self.here();
-        let start = tree.len();
-        self.expect(Kind::Proc)?;
+        let start = self.start();
+        self.advance()?;
         let name = self.name()?;
         let params = self.params()?;
-        self.command(tree)?;
-        push_routine(tree, Label::Proc, place, name, params, slot, start);
+        self.body(label)?;
+        self.end(start, routine(label, name, params, slot));
         Ok(())
+    }
+
+    // What a routine does.
+    #[cycle(command_lines)]
+    fn body(&mut self, label: Label) -> Result<(), Refused>
+        ensures { Gone self.old self.new result }
+    {
+        match label {
+            Label::Fun => self.answer(),
+            _ => self.command(),
+        }
     }
 
     // command..
     #[cycle(command_lines)]
-    fn commands(&mut self, tree: &mut Tree) -> Result<(), Refused>
-        ensures read { Lists self.old self.new result }
-        ensures kept { Kept tree.old tree.new }
+    fn commands(&mut self) -> Result<(), Refused>
+        ensures { Lists self.old self.new result }
     {
-        while self.command_here() {
-            self.command(tree)?;
+        while self.begins(Line::Command) {
+            self.command()?;
         }
         Ok(())
     }

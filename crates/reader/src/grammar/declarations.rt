@@ -1,22 +1,20 @@
 ghost use Rattle.std.specs.Prelude.{◌≡◌};
-ghost use Rattle.reader.specs.Looking.{Gone, Lists, Kept};
+ghost use Rattle.reader.specs.Looking.{Gone, Lists};
 
 use crate::grammar::Reader;
-use crate::grammar::build::{Params, named, push};
-use crate::node::Label;
-use crate::tree::Tree;
+use crate::grammar::build::{Params, named};
+use crate::node::{Info, Label};
 use lang::refusal::Refused;
 use lang::word::Kind;
 
-impl<'t> Reader<'t> {
+impl<'t, 'm> Reader<'t, 'm> {
     // datum..: how many there are.
-    pub fn data(&mut self, tree: &mut Tree) -> Result<u16, Refused>
-        ensures read { Lists self.old self.new result }
-        ensures kept { Kept tree.old tree.new }
+    pub fn data(&mut self) -> Result<u16, Refused>
+        ensures { Lists self.old self.new result }
     {
         let mut slot: u16 = 0;
         while let Some(label) = self.datum_word() {
-            self.datum(tree, label, slot)?;
+            self.datum(label, slot)?;
             slot = slot.saturating_add(1);
         }
         Ok(slot)
@@ -24,30 +22,26 @@ impl<'t> Reader<'t> {
 
     // 'const' or 'var', if one of them stands here.
     fn datum_word(&self) -> Option<Label> {
-        if self.next_is(Kind::Const) {
-            return Some(Label::Const);
+        match self.kind()? {
+            Kind::Const => Some(Label::Const),
+            Kind::Var => Some(Label::Var),
+            _ => None,
         }
-        if self.next_is(Kind::Var) {
-            return Some(Label::Var);
-        }
-        None
     }
 
     // datum: ('const' | 'var') name '=' expr ';'
-    fn datum(&mut self, tree: &mut Tree, label: Label, slot: u16) -> Result<(), Refused>
-        ensures read { Gone self.old self.new result }
-        ensures kept { Kept tree.old tree.new }
+    fn datum(&mut self, label: Label, slot: u16) -> Result<(), Refused>
+        ensures { Gone self.old self.new result }
     {
-        let place = self.here();
-        let start = tree.len();
+        let start = self.start();
         self.advance()?;
         let name = self.name()?;
-        self.expect(Kind::Equal)?;
-        self.expr(tree)?;
-        self.expect(Kind::Semicolon)?;
-        let mut info = named(label, place, name);
-        info.slot = slot;
-        push(tree, info, start);
+        self.answer()?;
+        let info = Info {
+            slot,
+            ..named(label, name)
+        };
+        self.end(start, info);
         Ok(())
     }
 
@@ -69,23 +63,20 @@ impl<'t> Reader<'t> {
         if self.next_is(Kind::Close) {
             return Ok(params);
         }
-        let first = self.name()?;
-        params.add(first);
+        params.add(self.name()?);
         while self.next_is(Kind::Comma) {
             self.advance()?;
-            let name = self.name()?;
-            params.add(name);
+            params.add(self.name()?);
         }
         Ok(params)
     }
 
-    // '=' expr ';', what a function answers.
-    pub fn answer(&mut self, tree: &mut Tree) -> Result<(), Refused>
-        ensures read { Gone self.old self.new result }
-        ensures kept { Kept tree.old tree.new }
+    // '=' expr ';', what a datum holds or a function answers.
+    pub fn answer(&mut self) -> Result<(), Refused>
+        ensures { Gone self.old self.new result }
     {
         self.expect(Kind::Equal)?;
-        self.expr(tree)?;
+        self.expr()?;
         self.expect(Kind::Semicolon)
     }
 }

@@ -1,235 +1,196 @@
 ghost use Rattle.std.specs.Prelude.{◌≡◌};
-ghost use Rattle.reader.specs.Looking.{Gone, Lists, Kept};
+ghost use Rattle.reader.specs.Looking.{Gone, Lists};
 
 use crate::grammar::Reader;
-use crate::grammar::build::{named, plain, push, push_leaf};
-use crate::node::{Label, Param};
+use crate::grammar::begins::Line;
+use crate::grammar::build::{Start, named, plain};
+use crate::grammar::operators::Level;
+use crate::node::{Info, Label, Param};
 use crate::number::value;
-use crate::tree::Tree;
 use lang::refusal::{Refusal, Refused};
 use lang::word::Kind;
 
-impl<'t> Reader<'t> {
+impl<'t, 'm> Reader<'t, 'm> {
     // expr: 'if' expr 'then' expr 'else' expr | 'let' name '=' expr 'in' expr | either
     #[cycle(expression_lines)]
-    pub fn expr(&mut self, tree: &mut Tree) -> Result<(), Refused>
-        ensures read { Gone self.old self.new result }
-        ensures kept { Kept tree.old tree.new }
+    pub fn expr(&mut self) -> Result<(), Refused>
+        ensures { Gone self.old self.new result }
     {
-        self.enter_expr()?;
-        self.whole(tree)?;
+        self.enter(Line::Expr)?;
+        self.whole()?;
         self.leave();
         Ok(())
     }
 
     // What an expression is, by its first word.
     #[cycle(expression_lines)]
-    fn whole(&mut self, tree: &mut Tree) -> Result<(), Refused>
-        ensures read { Gone self.old self.new result }
-        ensures kept { Kept tree.old tree.new }
+    fn whole(&mut self) -> Result<(), Refused>
+        ensures { Gone self.old self.new result }
     {
-        if self.next_is(Kind::If) {
-            return self.choose(tree);
+        match self.kind() {
+            Some(Kind::If) => self.choose(),
+            Some(Kind::Let) => self.bind(),
+            _ => self.grouped(Level::Or),
         }
-        if self.next_is(Kind::Let) {
-            return self.bind(tree);
-        }
-        self.either(tree)
     }
 
     // 'if' expr 'then' expr 'else' expr
     #[cycle(expression_lines)]
-    fn choose(&mut self, tree: &mut Tree) -> Result<(), Refused>
-        ensures read { Gone self.old self.new result }
-        ensures kept { Kept tree.old tree.new }
+    fn choose(&mut self) -> Result<(), Refused>
+        ensures { Gone self.old self.new result }
     {
-        let place = self.here();
-        let start = tree.len();
+        let start = self.start();
         self.expect(Kind::If)?;
-        self.expr(tree)?;
+        self.expr()?;
         self.expect(Kind::Then)?;
-        self.expr(tree)?;
+        self.expr()?;
         self.expect(Kind::Else)?;
-        self.expr(tree)?;
-        push(tree, plain(Label::Choose, place), start);
+        self.expr()?;
+        self.end(start, plain(Label::Choose));
         Ok(())
     }
 
     // 'let' name '=' expr 'in' expr
     #[cycle(expression_lines)]
-    fn bind(&mut self, tree: &mut Tree) -> Result<(), Refused>
-        ensures read { Gone self.old self.new result }
-        ensures kept { Kept tree.old tree.new }
+    fn bind(&mut self) -> Result<(), Refused>
+        ensures { Gone self.old self.new result }
     {
-        let place = self.here();
-        let start = tree.len();
+        let start = self.start();
         self.expect(Kind::Let)?;
         let name = self.name()?;
         self.expect(Kind::Equal)?;
-        self.expr(tree)?;
+        self.expr()?;
         self.expect(Kind::In)?;
-        self.expr(tree)?;
-        push(tree, named(Label::Let, place, name), start);
+        self.expr()?;
+        self.end(start, named(Label::Let, name));
         Ok(())
     }
 
     // prefix: '-' prefix | 'not' prefix | atom
     #[cycle(expression_lines)]
-    pub fn prefix(&mut self, tree: &mut Tree) -> Result<(), Refused>
-        ensures read { Gone self.old self.new result }
-        ensures kept { Kept tree.old tree.new }
+    pub fn prefix(&mut self) -> Result<(), Refused>
+        ensures { Gone self.old self.new result }
     {
-        self.enter_prefix()?;
-        self.signed(tree)?;
+        self.enter(Line::Prefix)?;
+        self.signed()?;
         self.leave();
         Ok(())
     }
 
     // What a prefix is, by its first word.
     #[cycle(expression_lines)]
-    fn signed(&mut self, tree: &mut Tree) -> Result<(), Refused>
-        ensures read { Gone self.old self.new result }
-        ensures kept { Kept tree.old tree.new }
+    fn signed(&mut self) -> Result<(), Refused>
+        ensures { Gone self.old self.new result }
     {
-        if self.next_is(Kind::Minus) {
-            return self.unary(tree, Kind::Minus, Label::Minus);
+        match self.kind() {
+            Some(Kind::Minus) => self.unary(Label::Minus),
+            Some(Kind::Not) => self.unary(Label::Not),
+            _ => self.atom(),
         }
-        if self.next_is(Kind::Not) {
-            return self.unary(tree, Kind::Not, Label::Not);
-        }
-        self.atom(tree)
     }
 
     // A sign and what it stands before.
     #[cycle(expression_lines)]
-    fn unary(&mut self, tree: &mut Tree, sign: Kind, label: Label) -> Result<(), Refused>
-        ensures read { Gone self.old self.new result }
-        ensures kept { Kept tree.old tree.new }
+    fn unary(&mut self, label: Label) -> Result<(), Refused>
+        ensures { Gone self.old self.new result }
     {
-        let place = self.here();
-        let start = tree.len();
-        self.expect(sign)?;
-        self.prefix(tree)?;
-        push(tree, plain(label, place), start);
+        let start = self.start();
+        self.advance()?;
+        self.prefix()?;
+        self.end(start, plain(label));
         Ok(())
     }
 
     // atom: number | 'true' | 'false' | name | name '(' args ')' | '(' expr ')'
     #[cycle(expression_lines)]
-    fn atom(&mut self, tree: &mut Tree) -> Result<(), Refused>
-        ensures read { Gone self.old self.new result }
-        ensures kept { Kept tree.old tree.new }
+    fn atom(&mut self) -> Result<(), Refused>
+        ensures { Gone self.old self.new result }
     {
-        if self.next_is(Kind::Name) {
-            return self.named_atom(tree);
+        match self.kind() {
+            Some(Kind::Name) => self.named_atom(),
+            Some(Kind::Open) => self.brackets(),
+            _ => self.leaf(),
         }
-        if self.next_is(Kind::Open) {
-            return self.brackets(tree);
-        }
-        self.constant(tree)
     }
 
     // number | 'true' | 'false'
-    fn constant(&mut self, tree: &mut Tree) -> Result<(), Refused>
-        ensures read { Gone self.old self.new result }
-        ensures kept { Kept tree.old tree.new }
+    fn leaf(&mut self) -> Result<(), Refused>
+        ensures { Gone self.old self.new result }
     {
-        if self.next_is(Kind::True) {
-            return self.leaf(tree, Label::Truth(true));
-        }
-        if self.next_is(Kind::False) {
-            return self.leaf(tree, Label::Truth(false));
-        }
-        match self.word {
-            Some(word) => {
-                if word.kind.is(Kind::Number) {
-                    return match value(word.bytes) {
-                        Some(number) => self.leaf(tree, Label::Number(number)),
-                        None => Err(Refused {
-                            why: Refusal::NumberTooLarge,
-                            place: word.place,
-                        }),
-                    };
-                }
-                Err(self.unexpected())
-            }
-            None => Err(self.unexpected()),
-        }
+        let start = self.start();
+        let label = self.constant()?;
+        self.advance()?;
+        self.end(start, plain(label));
+        Ok(())
     }
 
-    // The word looked at as a node of its own.
-    fn leaf(&mut self, tree: &mut Tree, label: Label) -> Result<(), Refused>
-        ensures read { Gone self.old self.new result }
-        ensures kept { Kept tree.old tree.new }
-    {
-        let place = self.here();
-        self.advance()?;
-        push_leaf(tree, plain(label, place));
-        Ok(())
+    // The constant that the word looked at is.
+    fn constant(&self) -> Result<Label, Refused> {
+        let word = self.word.ok_or(self.unexpected())?;
+        match word.kind {
+            Kind::True => Ok(Label::Truth(true)),
+            Kind::False => Ok(Label::Truth(false)),
+            Kind::Number => value(word.bytes)
+                .map(|number| Label::Number(number))
+                .ok_or(self.refused(Refusal::NumberTooLarge)),
+            _ => Err(self.unexpected()),
+        }
     }
 
     // '(' expr ')'
     #[cycle(expression_lines)]
-    fn brackets(&mut self, tree: &mut Tree) -> Result<(), Refused>
-        ensures read { Gone self.old self.new result }
-        ensures kept { Kept tree.old tree.new }
+    fn brackets(&mut self) -> Result<(), Refused>
+        ensures { Gone self.old self.new result }
     {
         self.expect(Kind::Open)?;
-        self.expr(tree)?;
+        self.expr()?;
         self.expect(Kind::Close)
     }
 
     // name | name '(' args ')'
     #[cycle(expression_lines)]
-    fn named_atom(&mut self, tree: &mut Tree) -> Result<(), Refused>
-        ensures read { Gone self.old self.new result }
-        ensures kept { Kept tree.old tree.new }
+    fn named_atom(&mut self) -> Result<(), Refused>
+        ensures { Gone self.old self.new result }
     {
-        let start = tree.len();
+        let start = self.start();
         let name = self.name()?;
         if self.next_is(Kind::Open) {
-            return self.call(tree, Label::Call, name.at, name, start);
+            return self.call(Label::Call, name, start);
         }
-        push(tree, named(Label::Read, name.at, name), start);
+        self.end(start, named(Label::Read, name));
         Ok(())
     }
 
     // '(' args ')' of a name that is called
     #[cycle(expression_lines)]
-    pub fn call(
-        &mut self,
-        tree: &mut Tree,
-        label: Label,
-        place: u16,
-        name: Param,
-        start: usize,
-    ) -> Result<(), Refused>
-        ensures read { Gone self.old self.new result }
-        ensures kept { Kept tree.old tree.new }
+    pub fn call(&mut self, label: Label, name: Param, start: Start) -> Result<(), Refused>
+        ensures { Gone self.old self.new result }
     {
         self.expect(Kind::Open)?;
-        let count = self.args(tree)?;
+        let count = self.args()?;
         self.expect(Kind::Close)?;
-        let mut info = named(label, place, name);
-        info.count = count;
-        push(tree, info, start);
+        let info = Info {
+            count,
+            ..named(label, name)
+        };
+        self.end(start, info);
         Ok(())
     }
 
-    // A comma list of expressions, up to its ')'; how many there are.
+    // A comma list of expressions, up to its ')'; how many there are. One list for this and `names` would be no
+    // plainer: it would pass a closure through the cycle of lines.
     #[cycle(expression_lines)]
-    fn args(&mut self, tree: &mut Tree) -> Result<u16, Refused>
-        ensures read { Lists self.old self.new result }
-        ensures kept { Kept tree.old tree.new }
+    fn args(&mut self) -> Result<u16, Refused>
+        ensures { Lists self.old self.new result }
     {
         if self.next_is(Kind::Close) {
             return Ok(0);
         }
-        self.expr(tree)?;
+        self.expr()?;
         let mut count: u16 = 1;
         while self.next_is(Kind::Comma) {
             self.advance()?;
-            self.expr(tree)?;
+            self.expr()?;
             count = count.saturating_add(1);
         }
         Ok(count)

@@ -1,127 +1,88 @@
 ghost use Rattle.std.specs.Prelude.{◌≡◌};
-ghost use Rattle.reader.specs.Looking.{Gone, Kept};
+ghost use Rattle.reader.specs.Looking.{Gone};
 
 use crate::grammar::Reader;
-use crate::grammar::build::{plain, push};
+use crate::grammar::build::{Start, plain};
 use crate::node::Label;
-use crate::tree::Tree;
 use lang::refusal::Refused;
 use lang::word::Kind;
 
-// Operators group to the left. An operator's place is that of the first word of its left side, brackets too.
-impl<'t> Reader<'t> {
+// The operators that group to the left, from the loosest on.
+#[derive(Clone, Copy, PartialEq, Eq, Debug)]
+pub enum Level {
+    Or,
+    And,
+    Term,
+    Factor,
+}
+
+// An operator's place is that of the first word of its left side, brackets too.
+impl<'t, 'm> Reader<'t, 'm> {
     // either: both ('or' both)..
+    // both: test ('and' test)..
+    // sum: product (('+' | '-') product)..
+    // product: prefix ('*' prefix)..
     #[cycle(expression_lines)]
-    pub fn either(&mut self, tree: &mut Tree) -> Result<(), Refused>
-        ensures read { Gone self.old self.new result }
-        ensures kept { Kept tree.old tree.new }
+    pub fn grouped(&mut self, level: Level) -> Result<(), Refused>
+        ensures { Gone self.old self.new result }
     {
-        let place = self.here();
-        let start = tree.len();
-        self.both(tree)?;
-        while self.next_is(Kind::Or) {
+        let start = self.start();
+        self.side(level)?;
+        while let Some(label) = self.operator(level) {
             self.advance()?;
-            self.both(tree)?;
-            push(tree, plain(Label::Or, place), start);
+            self.side(level)?;
+            self.end(start, plain(label));
         }
         Ok(())
     }
 
-    // both: test ('and' test)..
+    // What stands on each side of an operator.
     #[cycle(expression_lines)]
-    fn both(&mut self, tree: &mut Tree) -> Result<(), Refused>
-        ensures read { Gone self.old self.new result }
-        ensures kept { Kept tree.old tree.new }
+    fn side(&mut self, level: Level) -> Result<(), Refused>
+        ensures { Gone self.old self.new result }
     {
-        let place = self.here();
-        let start = tree.len();
-        self.test(tree)?;
-        while self.next_is(Kind::And) {
-            self.advance()?;
-            self.test(tree)?;
-            push(tree, plain(Label::And, place), start);
+        match level {
+            Level::Or => self.grouped(Level::And),
+            Level::And => self.test(),
+            Level::Term => self.grouped(Level::Factor),
+            Level::Factor => self.prefix(),
         }
-        Ok(())
+    }
+
+    // The operator of a level, if one stands here.
+    fn operator(&self, level: Level) -> Option<Label> {
+        match (level, self.kind()?) {
+            (Level::Or, Kind::Or) => Some(Label::Or),
+            (Level::And, Kind::And) => Some(Label::And),
+            (Level::Term, Kind::Plus) => Some(Label::Add),
+            (Level::Term, Kind::Minus) => Some(Label::Sub),
+            (Level::Factor, Kind::Times) => Some(Label::Mul),
+            _ => None,
+        }
     }
 
     // test: sum | sum '=' sum | sum '<' sum
     #[cycle(expression_lines)]
-    fn test(&mut self, tree: &mut Tree) -> Result<(), Refused>
-        ensures read { Gone self.old self.new result }
-        ensures kept { Kept tree.old tree.new }
+    fn test(&mut self) -> Result<(), Refused>
+        ensures { Gone self.old self.new result }
     {
-        let place = self.here();
-        let start = tree.len();
-        self.sum(tree)?;
-        if self.next_is(Kind::Equal) {
-            return self.compared(tree, Label::Equal, place, start);
+        let start = self.start();
+        self.grouped(Level::Term)?;
+        match self.kind() {
+            Some(Kind::Equal) => self.compared(Label::Equal, start),
+            Some(Kind::Less) => self.compared(Label::Less, start),
+            _ => Ok(()),
         }
-        if self.next_is(Kind::Less) {
-            return self.compared(tree, Label::Less, place, start);
-        }
-        Ok(())
     }
 
     // The sign of a comparison and its right side.
     #[cycle(expression_lines)]
-    fn compared(
-        &mut self,
-        tree: &mut Tree,
-        label: Label,
-        place: u16,
-        start: usize,
-    ) -> Result<(), Refused>
-        ensures read { Gone self.old self.new result }
-        ensures kept { Kept tree.old tree.new }
+    fn compared(&mut self, label: Label, start: Start) -> Result<(), Refused>
+        ensures { Gone self.old self.new result }
     {
         self.advance()?;
-        self.sum(tree)?;
-        push(tree, plain(label, place), start);
-        Ok(())
-    }
-
-    // sum: product (('+' | '-') product)..
-    #[cycle(expression_lines)]
-    fn sum(&mut self, tree: &mut Tree) -> Result<(), Refused>
-        ensures read { Gone self.old self.new result }
-        ensures kept { Kept tree.old tree.new }
-    {
-        let place = self.here();
-        let start = tree.len();
-        self.product(tree)?;
-        while let Some(label) = self.term_sign() {
-            self.advance()?;
-            self.product(tree)?;
-            push(tree, plain(label, place), start);
-        }
-        Ok(())
-    }
-
-    // '+' or '-', if one of them stands here.
-    fn term_sign(&self) -> Option<Label> {
-        if self.next_is(Kind::Plus) {
-            return Some(Label::Add);
-        }
-        if self.next_is(Kind::Minus) {
-            return Some(Label::Sub);
-        }
-        None
-    }
-
-    // product: prefix ('*' prefix)..
-    #[cycle(expression_lines)]
-    fn product(&mut self, tree: &mut Tree) -> Result<(), Refused>
-        ensures read { Gone self.old self.new result }
-        ensures kept { Kept tree.old tree.new }
-    {
-        let place = self.here();
-        let start = tree.len();
-        self.prefix(tree)?;
-        while self.next_is(Kind::Times) {
-            self.advance()?;
-            self.prefix(tree)?;
-            push(tree, plain(Label::Mul, place), start);
-        }
+        self.grouped(Level::Term)?;
+        self.end(start, plain(label));
         Ok(())
     }
 }

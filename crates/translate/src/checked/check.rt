@@ -1,22 +1,27 @@
 ghost use Rattle.std.specs.Prelude.{◌≡◌};
 ghost use Rattle.lang.specs.Stacks.{room};
+ghost use Rattle.translate.specs.Rooms.{KeepsNames, CheckerKeeps};
 
 use crate::checked::Checked;
-use crate::lookup::look_up;
-use crate::record::Record;
-use crate::scope::{
-    MOST_SLOTS, datum_sort, declare, declare_routines, push_let, push_params, push_rest, push_sheet,
-};
-use crate::view::calls::{command_at, datum_below, expr_at, last, routine_below};
-use crate::view::{Command, Expr, Routine};
-use crate::violation::{as_function, as_procedure, as_value, as_variable, note};
+use crate::record::{Record, Sort};
+use crate::scope::{MOST_SLOTS, Outer, Scope};
+use crate::view::{Command, Datum, Expr, Form, Nodes, Routine, command_at, expr_at, last};
+use crate::violation::{Use, lesser};
+use lang::name::Name;
 use lang::refusal::{Refusal, Refused};
 use lang::sheet::Sheet;
 use lang::stack::Stack;
 use reader::tree::Tree;
 
 // The most frames that stand inside one another, the sheet's included.
-const MOST_FRAMES: usize = 16;
+const MOST_FRAMES: u8 = 16;
+
+// Looks for violations, of which the least is kept.
+#[derive(Drop)]
+pub struct Checker<'c, 't, 'm, 's, 'n> {
+    scope: &'c mut Scope<'t, 'm, 's, 'n>,
+    least: Option<Refused>,
+}
 
 // The tree with its names checked over the sheet, or the violation with the earliest place, then the lowest number.
 pub fn check<'a, 'm>(
@@ -27,12 +32,13 @@ pub fn check<'a, 'm>(
     ensures { room names.new ≡ room names.old }
 {
     names.clear();
-    push_sheet(sheet, names);
-    let least = match last(tree, tree.len()) {
-        Some((_, root)) => check_command(tree, root, 1, names, None),
-        // no tree has no node
-        None => None,
+    let mut scope = Scope {
+        tree,
+        names,
+        depth: 1,
     };
+    scope.push_sheet(sheet);
+    let least = violation(&mut scope);
     names.clear();
     match least {
         Some(refused) => Err(refused),
@@ -40,237 +46,223 @@ pub fn check<'a, 'm>(
     }
 }
 
-// The names of the expression at a node, where `depth` frames stand.
-#[cycle(expression_checks)]
-fn check_expr(
-    tree: &Tree,
-    n: usize,
-    depth: usize,
-    names: &mut Stack<Record>,
-    least: Option<Refused>,
-) -> Option<Refused>
-    ensures { room names.new ≡ room names.old }
+// The least violation of the command that is the whole text.
+fn violation(scope: &mut Scope) -> Option<Refused>
+    ensures { KeepsNames scope.old scope.new }
 {
-    match expr_at(tree, n) {
-        Expr::Literal { .. } => least,
-        Expr::Read { place, name } => as_value(look_up(tree, names, name), place, least),
-        Expr::Unary { operand, .. } => check_expr(tree, operand, depth, names, least),
-        Expr::Binary { left, right, .. } => {
-            let a = check_expr(tree, left, depth, names, least);
-            check_expr(tree, right, depth, names, a)
+    let mut checker = Checker { scope, least: None };
+    checker.check_rule();
+    checker.least
+}
+
+impl<'c, 't, 'm, 's, 'n> Checker<'c, 't, 'm, 's, 'n> {
+    // One violation more, if there is one.
+    fn note(&mut self, found: Option<Refused>)
+        ensures { CheckerKeeps self.old self.new }
+    {
+        self.least = lesser(self.least, found);
+    }
+
+    // A name is used at a place.
+    fn check_use(&mut self, name: Name, how: Use, place: u16)
+        ensures { CheckerKeeps self.old self.new }
+    {
+        let used = self
+            .scope
+            .look_up(name)
+            .ok_or(Refusal::NotVisible)
+            .and_then(|found| how.check(found.sort));
+        self.note(used.err().map(|why| why.at(place)));
+    }
+
+    // Goes into the frame of a construct at a place, unless too many stand around it.
+    fn enter(&mut self, place: u16) -> Option<Outer>
+        ensures { CheckerKeeps self.old self.new }
+    {
+        if self.scope.depth >= MOST_FRAMES {
+            self.note(Some(Refusal::ScopesTooDeep.at(place)));
+            return None;
         }
-        Expr::Choose { test, yes, no, .. } => {
-            let a = check_expr(tree, test, depth, names, least);
-            let b = check_expr(tree, yes, depth, names, a);
-            check_expr(tree, no, depth, names, b)
-        }
-        Expr::Let {
-            place,
-            name,
-            value,
-            body,
-        } => {
-            if depth >= MOST_FRAMES {
-                return note(least, place, Refusal::ScopesTooDeep);
+        Some(self.scope.enter())
+    }
+
+    // The expression at a node.
+    #[cycle(expression_checks)]
+    fn check_expr(&mut self, n: usize)
+        ensures { CheckerKeeps self.old self.new }
+    {
+        let Some(expr) = expr_at(self.scope.tree, n) else {
+            return;
+        };
+        match expr {
+            Expr::Literal { .. } => {}
+            Expr::Read { place, name } => self.check_use(name, Use::Value, place),
+            Expr::Unary { operand, .. } => self.check_expr(operand),
+            Expr::Binary { left, right, .. } => {
+                self.check_expr(left);
+                self.check_expr(right);
             }
-            let a = check_expr(tree, value, depth + 1, names, least);
-            let old = names.len();
-            push_let(names, name, depth);
-            let b = check_expr(tree, body, depth + 1, names, a);
-            names.truncate(old);
-            b
-        }
-        Expr::Call {
-            place,
-            name,
-            count,
-            start,
-        } => {
-            let a = as_function(look_up(tree, names, name), count, place, least);
-            check_args(tree, start, n, depth, names, a)
-        }
-        // no expression's node
-        Expr::Other => least,
-    }
-}
-
-// The args among the nodes from `start` up to `end`.
-#[cycle(expression_checks)]
-fn check_args(
-    tree: &Tree,
-    start: usize,
-    end: usize,
-    depth: usize,
-    names: &mut Stack<Record>,
-    least: Option<Refused>,
-) -> Option<Refused>
-    ensures { room names.new ≡ room names.old }
-{
-    if start >= end {
-        return least;
-    }
-    let Some((first, n)) = last(tree, end) else {
-        return least;
-    };
-    let a = check_args(tree, start, first, depth, names, least);
-    check_expr(tree, n, depth, names, a)
-}
-
-// The data among the nodes from `start` up to `end`: each sees those before it, and their names stay.
-fn check_data(
-    tree: &Tree,
-    start: usize,
-    end: usize,
-    depth: usize,
-    names: &mut Stack<Record>,
-    least: Option<Refused>,
-) -> Option<Refused>
-    ensures { room names.new ≡ room names.old }
-{
-    if start >= end {
-        return least;
-    }
-    let Some(d) = datum_below(tree, end) else {
-        return least;
-    };
-    let a = check_data(tree, start, d.start, depth, names, least);
-    let b = check_expr(tree, d.value, depth, names, a);
-    declare(
-        tree,
-        names,
-        d.name,
-        datum_sort(d.binding),
-        depth.saturating_sub(1),
-        d.slot as usize,
-        MOST_SLOTS,
-        d.at,
-        b,
-    )
-}
-
-#[cycle(command_checks)]
-fn check_command(
-    tree: &Tree,
-    n: usize,
-    depth: usize,
-    names: &mut Stack<Record>,
-    least: Option<Refused>,
-) -> Option<Refused>
-    ensures { room names.new ≡ room names.old }
-{
-    match command_at(tree, n) {
-        Command::Assign { place, name, value } => {
-            let a = as_variable(look_up(tree, names, name), place, least);
-            check_expr(tree, value, depth, names, a)
-        }
-        Command::Do {
-            name,
-            at,
-            count,
-            start,
-            ..
-        } => {
-            let a = as_procedure(look_up(tree, names, name), count, at, least);
-            check_args(tree, start, n, depth, names, a)
-        }
-        Command::If { test, yes, no, .. } => {
-            let a = check_expr(tree, test, depth, names, least);
-            let b = check_command(tree, yes, depth, names, a);
-            check_command(tree, no, depth, names, b)
-        }
-        Command::While { test, body, .. } => {
-            let a = check_expr(tree, test, depth, names, least);
-            check_command(tree, body, depth, names, a)
-        }
-        Command::Block {
-            place,
-            count,
-            start,
-            routines,
-            commands,
-        } => {
-            if depth >= MOST_FRAMES {
-                return note(least, place, Refusal::ScopesTooDeep);
+            Expr::Choose { test, yes, no, .. } => {
+                self.check_expr(test);
+                self.check_expr(yes);
+                self.check_expr(no);
             }
-            let old = names.len();
-            let a = check_data(tree, start, routines, depth + 1, names, least);
-            let b = declare_routines(tree, routines, commands, depth, names, a);
-            push_rest(names, count, depth, routines, commands);
-            let c = check_routines(tree, routines, commands, depth + 1, names, b);
-            let d = check_commands(tree, commands, n, depth + 1, names, c);
-            names.truncate(old);
-            d
+            Expr::Let {
+                place,
+                name,
+                value,
+                body,
+            } => {
+                let Some(outer) = self.enter(place) else {
+                    return;
+                };
+                self.check_expr(value);
+                self.scope.push(name, Sort::Constant, 0);
+                self.check_expr(body);
+                self.scope.leave(outer);
+            }
+            Expr::Call {
+                place,
+                name,
+                count,
+                args,
+            } => {
+                self.check_use(name, Use::Function(count), place);
+                self.check_args(args);
+            }
         }
-        // no command's node
-        Command::Other => least,
     }
-}
 
-// The commands among the nodes from `start` up to `end`.
-#[cycle(command_checks)]
-fn check_commands(
-    tree: &Tree,
-    start: usize,
-    end: usize,
-    depth: usize,
-    names: &mut Stack<Record>,
-    least: Option<Refused>,
-) -> Option<Refused>
-    ensures { room names.new ≡ room names.old }
-{
-    if start >= end {
-        return least;
+    // The lists of a tree are recursions: they go in order, and can be stepped through only from the end back.
+    #[cycle(expression_checks)]
+    fn check_args(&mut self, args: Nodes)
+        ensures { CheckerKeeps self.old self.new }
+    {
+        if let Some((n, before)) = args.split_last(self.scope.tree) {
+            self.check_args(before);
+            self.check_expr(n);
+        }
     }
-    let Some((first, n)) = last(tree, end) else {
-        return least;
-    };
-    let a = check_commands(tree, start, first, depth, names, least);
-    check_command(tree, n, depth, names, a)
-}
 
-// The bodies of the routines among the nodes from `start` up to `end`.
-#[cycle(command_checks)]
-fn check_routines(
-    tree: &Tree,
-    start: usize,
-    end: usize,
-    depth: usize,
-    names: &mut Stack<Record>,
-    least: Option<Refused>,
-) -> Option<Refused>
-    ensures { room names.new ≡ room names.old }
-{
-    if start >= end {
-        return least;
+    // Each datum sees those before it, and their names stay.
+    fn check_data(&mut self, data: Nodes)
+        ensures { CheckerKeeps self.old self.new }
+    {
+        if let Some((datum, before)) = data.split_datum(self.scope.tree) {
+            self.check_data(before);
+            self.check_datum(datum);
+        }
     }
-    let Some(r) = routine_below(tree, end) else {
-        return least;
-    };
-    let a = check_routines(tree, start, r.start, depth, names, least);
-    if depth >= MOST_FRAMES {
-        return note(a, r.place, Refusal::ScopesTooDeep);
-    }
-    check_body(tree, r, depth, names, a)
-}
 
-// A routine's parameters and its body.
-#[cycle(command_checks)]
-fn check_body(
-    tree: &Tree,
-    r: Routine,
-    depth: usize,
-    names: &mut Stack<Record>,
-    least: Option<Refused>,
-) -> Option<Refused>
-    ensures { room names.new ≡ room names.old }
-{
-    let old = names.len();
-    let a = push_params(tree, r.node, r.count, depth, names, least);
-    let b = if r.function {
-        check_expr(tree, r.body, depth.saturating_add(1), names, a)
-    } else {
-        check_command(tree, r.body, depth.saturating_add(1), names, a)
-    };
-    names.truncate(old);
-    b
+    fn check_datum(&mut self, datum: Datum)
+        ensures { CheckerKeeps self.old self.new }
+    {
+        self.check_expr(datum.value);
+        let slot = datum.slot as usize;
+        let sort = Sort::from(datum.binding);
+        let declared = self
+            .scope
+            .declare(datum.name, sort, slot, MOST_SLOTS, datum.at);
+        self.note(declared.err());
+    }
+
+    // The command at a node.
+    #[cycle(command_checks)]
+    fn check_command(&mut self, n: usize)
+        ensures { CheckerKeeps self.old self.new }
+    {
+        let Some(command) = command_at(self.scope.tree, n) else {
+            return;
+        };
+        match command {
+            Command::Assign { place, name, value } => {
+                self.check_use(name, Use::Variable, place);
+                self.check_expr(value);
+            }
+            Command::Do {
+                name,
+                at,
+                count,
+                args,
+                ..
+            } => {
+                self.check_use(name, Use::Procedure(count), at);
+                self.check_args(args);
+            }
+            Command::If { test, yes, no, .. } => {
+                self.check_expr(test);
+                self.check_command(yes);
+                self.check_command(no);
+            }
+            Command::While { test, body, .. } => {
+                self.check_expr(test);
+                self.check_command(body);
+            }
+            Command::Block {
+                place,
+                count,
+                data,
+                routines,
+                commands,
+            } => {
+                let Some(outer) = self.enter(place) else {
+                    return;
+                };
+                self.check_data(data);
+                let declared = self.scope.declare_routines(routines);
+                self.note(declared);
+                self.scope.push_rest(count, routines);
+                self.check_routines(routines);
+                self.check_commands(commands);
+                self.scope.leave(outer);
+            }
+        }
+    }
+
+    #[cycle(command_checks)]
+    fn check_commands(&mut self, commands: Nodes)
+        ensures { CheckerKeeps self.old self.new }
+    {
+        if let Some((n, before)) = commands.split_last(self.scope.tree) {
+            self.check_commands(before);
+            self.check_command(n);
+        }
+    }
+
+    #[cycle(command_checks)]
+    fn check_routines(&mut self, routines: Nodes)
+        ensures { CheckerKeeps self.old self.new }
+    {
+        if let Some((routine, before)) = routines.split_routine(self.scope.tree) {
+            self.check_routines(before);
+            self.check_routine(routine);
+        }
+    }
+
+    // A routine's parameters and its body.
+    #[cycle(command_checks)]
+    fn check_routine(&mut self, routine: Routine)
+        ensures { CheckerKeeps self.old self.new }
+    {
+        let Some(outer) = self.enter(routine.place) else {
+            return;
+        };
+        let declared = self.scope.declare_params(routine);
+        self.note(declared);
+        match routine.form {
+            Form::Function => self.check_expr(routine.body),
+            Form::Procedure => self.check_command(routine.body),
+        }
+        self.scope.leave(outer);
+    }
+
+    // The command that is the whole text.
+    fn check_rule(&mut self)
+        ensures { CheckerKeeps self.old self.new }
+    {
+        let tree = self.scope.tree;
+        if let Some((_, root)) = last(tree, tree.len()) {
+            self.check_command(root);
+        }
+    }
 }

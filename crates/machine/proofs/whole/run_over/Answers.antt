@@ -1,4 +1,4 @@
-use Rattle.std.proofs.Common.{◌≡◌, ◌-◌, ◌<◌, take, ap, ◌∙◌, subst, arith}
+use Rattle.std.proofs.Common.{◌≡◌, ◌<◌, ◌∙◌, subst, arith}
 use Rattle.lang.specs.Sheets.{entries_of}
 use Rattle.meaning.specs.Limits.{most_steps}
 use Rattle.meaning.specs.Machine.{Machine}
@@ -13,14 +13,11 @@ pub returns : goal.returns
 returns g c = λ t v h r.
     let es = entries_of c.args.sheet.now in
     let frames = g.F.ReadFrames.frames in
-    let n = c.starting-count.result in
-    let table = c.starting-count.new.table in
     let ran = c.run-ran.result in
     let e = meaning es t in
     let b = seen frames c.run-ran.new.self in
     let s = c.in_ok-begin.ensures r in
-    let whole : n - 0 ≡ n = omega arith in
-    let first : seen frames c.begin.new.self ≡ start es = s.2 ∙ begun es (take (n - 0) table) (ap (λ j. take j table) whole ∙ c.starting-count.ensures.values) in
+    let first : seen frames c.begin.new.self ≡ start es = s.2 ∙ begun es c.starting.result.now c.starting.ensures in
     let u = c.run-ran.ensures (translated es t) h s.0 in
     let most : most_steps < 1000001 = omega arith in
     let a = ends_as es t ran.steps 1000001 ran.outcome b v most (subst (λ (m : Machine). Ends ran.outcome ran.steps (translated es t) 1000001 m b) first u.1) in

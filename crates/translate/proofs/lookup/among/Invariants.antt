@@ -1,4 +1,4 @@
 use Rattle.translate.proofs.lookup.among.Given as goal
 
-abbrev pub decreases-loop-at : goal.decreases-loop-at
-decreases-loop-at l = l.at
+abbrev pub decreases-loop-routine : goal.decreases-loop-routine
+decreases-loop-routine l = l.rest.end

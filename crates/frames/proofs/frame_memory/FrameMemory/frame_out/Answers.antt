@@ -12,8 +12,9 @@ returns g c = λ s.
     let t = m.slots in
     let up = g.L.Links.up m.links in
     let last = c.newest.result in
-    let w = c.newest.ensures.within in
-    let e : c.walk_out.result ≡ hop up c.args.hops last = c.walk_out.ensures t.count t.few s w in (
-      ap (part_in up t) e ∙ part-hop up t.starts.now t.cells.now t.count t.used s.earlier c.args.hops last w ∙ ap (walk c.args.hops) (c.newest.ensures.all up),
-      subst (λ r. Within r t.count) (sym e) (hop_within up t.count s.earlier c.args.hops last w),
-    )
+    let w = (c.newest.ensures.last up).within in
+    let e : c.walk_out.result ≡ hop up c.args.hops last = c.walk_out.ensures t.count t.few s w in
+    record {
+      part = ap (part_in up t) e ∙ part-hop up t.starts.now t.cells.now t.count t.used s.earlier c.args.hops last w ∙ ap (walk c.args.hops) (c.newest.ensures.last up).part;
+      within = subst (λ r. Within r t.count) (sym e) (hop_within up t.count s.earlier c.args.hops last w);
+    }

@@ -6,8 +6,8 @@ use Rattle.machine.specs.Runs.{Holds}
 use Rattle.machine.proofs.machine.Machine.run.Given as goal
 
 -- so many steps on paper lead here
-abbrev pub invariant-loop-i : goal.invariant-loop-i
-invariant-loop-i g l =
-    (l.self.steps ≡ l.initial.self.steps + l.i)
+abbrev pub invariant-loop : goal.invariant-loop
+invariant-loop g l =
+    (l.self.steps ≡ l.initial.self.steps + l.counter)
     × ((ps : Code) → Holds l.code ps → Ready g.F.ReadFrames.sound l.initial.self → Ready g.F.ReadFrames.sound l.self
-    × (goes ps l.i (seen g.F.ReadFrames.frames l.initial.self) ≡ go (seen g.F.ReadFrames.frames l.self)))
+    × (goes ps l.counter (seen g.F.ReadFrames.frames l.initial.self) ≡ go (seen g.F.ReadFrames.frames l.self)))

@@ -1,72 +1,68 @@
 use Rattle.std.proofs.Common.{◌≡◌, ℕ, ◌≤◌, Some, sym, refl, ap, ◌∙◌, arith}
-use Rattle.std.specs.List.{slice_get}
 use Rattle.machine.specs.Shows.{seen}
-use Rattle.machine.proofs.Steps.{none_at, some_at, step_of, step_past}
+use Rattle.machine.proofs.Steps.{none_held, some_held, step_of, step_past}
 use Rattle.machine.proofs.machine.Machine.step.Goals as goal
 
-pub returns-then-at-ge65535 : goal.returns-then-at-ge65535
-returns-then-at-ge65535 g c =
-    let at = c.args.self.now.at in
-    let same : c.args.self.now.steps ≤ c.args.self.now.steps = omega arith in (
-      same,
-      λ ps h r.
-          let s = some_at ps at c.in-Some.what (ap (λ l. slice_get l at) (sym h.whats) ∙ sym c.in-Some.ensures) in
-          absurd (omega (arith, s.3, h.most, c.if-at-ge65535.true)),
-    )
-
-pub returns-in-None : goal.returns-in-None
-returns-in-None g c =
+pub returns-in_default : goal.returns-in_default
+returns-in_default g c =
     let m = c.args.self.now in (
       refl,
-      λ ps h r.
-          let e = none_at ps m.at (ap (λ l. slice_get l m.at) (sym h.whats) ∙ sym c.in-None.ensures) in
-          (r, step_past ps (seen g.F.ReadFrames.frames m) e.0, (refl, e.1)),
+      λ ps h r. let e = none_held _ ps m.at h (sym c.instruction.ensures ∙ c.in_default.is) in (r, step_past ps (seen g.F.ReadFrames.frames m) e.0, (refl, e.1)),
     )
 
-pub returns-in-On : goal.returns-in-On
-returns-in-On g c =
+pub returns-in_default-new : goal.returns-in_default-new
+returns-in_default-new g c =
     let m = c.args.self.now in
-    let what = c.in-Some.what in (
-      c.in-On.ensures.0,
-      λ ps h r.
-          let s = some_at ps m.at what (ap (λ l. slice_get l m.at) (sym h.whats) ∙ sym c.in-Some.ensures) in
-          let d = c.in-On.ensures.1 r in
-          (d.0, d.1 s.0 ∙ step_of ps (seen g.F.ReadFrames.frames m) what s.0 s.1, tt),
+    let same : m.steps ≤ m.steps = omega arith in (
+      same,
+      λ ps h r. let s = some_held _ ps m.at c.in-Some.what h (sym c.in-Some.ensures) in absurd (omega (arith, s.3, h.most, c.in_default-new.ensures)),
     )
 
-pub returns-in-Stuck : goal.returns-in-Stuck
-returns-in-Stuck g c =
+pub returns-in-Ok : goal.returns-in-Ok
+returns-in-Ok g c =
     let m = c.args.self.now in
     let what = c.in-Some.what in (
-      c.in-Stuck.ensures.0,
+      c.in-Ok.ensures.0,
       λ ps h r.
-          let s = some_at ps m.at what (ap (λ l. slice_get l m.at) (sym h.whats) ∙ sym c.in-Some.ensures) in
-          let d = c.in-Stuck.ensures.1 r in
-          (d.0, d.1 s.0 ∙ step_of ps (seen g.F.ReadFrames.frames m) what s.0 s.1, tt),
+          let s = some_held _ ps m.at what h (sym c.in-Some.ensures) in
+          let d = c.in-Ok.ensures.1 r in
+          let ready = d.0 in
+          (record { value_room = ready.value_room; return_room = ready.return_room; well = ready.well }, step_of g.F.ReadFrames.frames ps _ m what s.0 _ c.in-Some-new.ensures s.1 (d.1 s.0), tt),
+    )
+
+pub returns-in-Err-Stuck : goal.returns-in-Err-Stuck
+returns-in-Err-Stuck g c =
+    let m = c.args.self.now in
+    let what = c.in-Some.what in
+    let did = rw c.in-Err-Stuck.field-0-is at c.in-Err-Stuck.ensures in (
+      did.0,
+      λ ps h r.
+          let s = some_held _ ps m.at what h (sym c.in-Some.ensures) in
+          let d = did.1 r in
+          (d.0, step_of g.F.ReadFrames.frames ps _ m what s.0 _ c.in-Some-new.ensures s.1 (d.1 s.0), tt),
     )
 
 pub returns-in-Some-place : goal.returns-in-Some-place
 returns-in-Some-place g c =
     let m = c.args.self.now in
     let what = c.in-Some.what in
-    let place = c.in-Some-place.place in (
-      c.in-Stop.ensures.0,
+    let place = c.in-Some-place.place in
+    let did = rw c.in-Err-Fault.field-0-is at c.in-Err-Fault.ensures in (
+      did.0,
       λ ps h r.
-          let s = some_at ps m.at what (ap (λ l. slice_get l m.at) (sym h.whats) ∙ sym c.in-Some.ensures) in
-          let here = sym s.2 ∙ ap (λ l. slice_get l m.at) (sym h.wheres) ∙ sym c.in-Some-place.ensures in
-          let q : s.0 ≡ place = cc here in
-          let d = c.in-Stop.ensures.1 r in
-          (d.0, d.1 place ∙ step_of ps (seen g.F.ReadFrames.frames m) what place (s.1 ∙ ap (λ p. Some (what, p)) q), tt),
+          let s = some_held _ ps m.at what h (sym c.in-Some.ensures) in
+          let q : s.0 ≡ place = cc (sym s.2 ∙ sym c.in-Some-place.ensures) in
+          let d = did.1 r in
+          (d.0, step_of g.F.ReadFrames.frames ps _ m what place _ c.in-Some-new.ensures (s.1 ∙ ap (λ p. Some (what, p)) q) (d.1 place), tt),
     )
 
-pub returns-in-None-place : goal.returns-in-None-place
-returns-in-None-place g c =
+pub returns-in-None : goal.returns-in-None
+returns-in-None g c =
     let m = c.args.self.now in
-    let what = c.in-Some.what in (
-      c.in-Stop.ensures.0.0,
+    let did = rw c.in-Err-Fault.field-0-is at c.in-Err-Fault.ensures in (
+      did.0.0,
       λ ps h r.
-          let s = some_at ps m.at what (ap (λ l. slice_get l m.at) (sym h.whats) ∙ sym c.in-Some.ensures) in
-          let here = sym s.2 ∙ ap (λ l. slice_get l m.at) (sym h.wheres) ∙ sym c.in-None-place.ensures in
-          let z : ◌≡◌ {A = ℕ} 0 1 = cc here in
+          let s = some_held _ ps m.at c.in-Some.what h (sym c.in-Some.ensures) in
+          let z : ◌≡◌ {A = ℕ} 0 1 = cc (sym s.2 ∙ sym c.in-None.ensures) in
           absurd (omega arith),
     )

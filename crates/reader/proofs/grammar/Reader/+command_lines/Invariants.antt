@@ -1,9 +1,12 @@
 use Rattle.std.proofs.Common.{◌+◌, ◌*◌}
-use Rattle.reader.specs.Looking.{unread, Went, Kept}
+use Rattle.reader.specs.Looking.{unread, Went, Grew}
 use Rattle.reader.proofs.grammar.Reader.+command_lines.Given as goal
 
 abbrev pub decreases-block : goal.decreases-block
 decreases-block l = 4 * unread l.self.now + 0
+
+abbrev pub decreases-body : goal.decreases-body
+decreases-body l = 4 * unread l.self.now + 3
 
 abbrev pub decreases-choice : goal.decreases-choice
 decreases-choice l = 4 * unread l.self.now + 0
@@ -17,26 +20,23 @@ decreases-commands l = 4 * unread l.self.now + 3
 abbrev pub decreases-form : goal.decreases-form
 decreases-form l = 4 * unread l.self.now + 1
 
-abbrev pub decreases-procedure : goal.decreases-procedure
-decreases-procedure l = 4 * unread l.self.now + 0
-
 abbrev pub decreases-repeat : goal.decreases-repeat
 decreases-repeat l = 4 * unread l.self.now + 0
 
 abbrev pub decreases-routine : goal.decreases-routine
-decreases-routine l = 4 * unread l.self.now + 1
+decreases-routine l = 4 * unread l.self.now + 0
 
 abbrev pub decreases-routines : goal.decreases-routines
 decreases-routines l = 4 * unread l.self.now + 2
 
 abbrev pub invariant-commands-loop-self : goal.invariant-commands-loop-self
-invariant-commands-loop-self l = Went l.initial.self l.self × Kept l.initial.tree l.tree
+invariant-commands-loop-self l = Went l.initial.self l.self × Grew l.initial.self l.self
 
 abbrev pub decreases-commands-loop-self : goal.decreases-commands-loop-self
 decreases-commands-loop-self l = unread l.self
 
-abbrev pub invariant-routines-loop-self : goal.invariant-routines-loop-self
-invariant-routines-loop-self l = Went l.initial.self l.self × Kept l.initial.tree l.tree
+abbrev pub invariant-routines-loop-label : goal.invariant-routines-loop-label
+invariant-routines-loop-label l = Went l.initial.self l.self × Grew l.initial.self l.self
 
-abbrev pub decreases-routines-loop-self : goal.decreases-routines-loop-self
-decreases-routines-loop-self l = unread l.self
+abbrev pub decreases-routines-loop-label : goal.decreases-routines-loop-label
+decreases-routines-loop-label l = unread l.self

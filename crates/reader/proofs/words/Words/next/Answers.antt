@@ -1,28 +1,25 @@
-use Rattle.std.proofs.Common.{ap, ◌∙◌, arith, drop_of_length-le}
-use Rattle.reader.specs.Words.{lexed}
-use Rattle.reader.proofs.Cut.{blank_step, wrong-step, takes_step}
+use Rattle.std.proofs.Common.{rules, ◌≡◌, ◌+◌, ◌-◌, ap, ◌∙◌, drop, drop-drop, arith}
+use Rattle.reader.proofs.Cut.{blank_step, takes_step}
 use Rattle.reader.proofs.words.Words.next.Goals as goal
 
-pub loop-self-preserved : goal.loop-self-preserved
-loop-self-preserved c = (c.loop-self.invariant.0, c.loop-self.invariant.1 ∙ blank_step _ _ c.loop-self-test.true c.in-Blank.ensures.front, omega (arith, c.loop-self.invariant.2))
-
-pub returns-in-Takes : goal.returns-in-Takes
-returns-in-Takes c =
-    let i = c.loop-self.self.at in
-    let bs = c.loop-self.self.text.now in
-    let n = c.in-Takes.len in
-    let inn = c.in-Takes.ensures.inside in
+pub loop-place-preserved : goal.loop-place-preserved
+loop-place-preserved c =
+    let a = c.args.self.now in
+    let l = c.loop-place in
+    let p = c.pass.ensures in
+    let f = rw c.in-Ok-None.field-0-is at c.in-Ok-None.ensures in
+    let on : l.self.at - a.at + 1 ≡ c.pass.new.self.at - a.at = omega (arith, p.at, l.invariant.on) in
     record {
-      words = (c.loop-self.invariant.1 ∙ takes_step bs i c.loop-self-test.true _ n inn.0 c.in-Takes.ensures.front, omega (arith, inn.0, c.loop-self.invariant.2));
-      same = c.loop-self.invariant.0;
-      on = omega (arith, inn.0, c.loop-self.invariant.2);
-      within = omega (arith, inn.1);
+      words = rw (p.rest, p.at) (l.invariant.words ∙ blank_step l.self.rest.now l.self.at f.front);
+      rest = p.rest ∙ ap (drop 1) l.invariant.rest ∙ drop-drop 1 (l.self.at - a.at) a.rest.now ∙ ap (λ n. drop n a.rest.now) on;
+      on = search rules;
+      whole = search rules;
     }
 
-pub returns-in-Wrong : goal.returns-in-Wrong
-returns-in-Wrong c = record { words = c.loop-self.invariant.1 ∙ wrong-step _ _ c.loop-self-test.true _ c.in-Wrong.ensures.front; same = c.loop-self.invariant.0; on = c.loop-self.invariant.2; within = omega arith }
-
-pub returns : goal.returns
-returns c =
-    let e = ap (λ l. lexed l 0 c.loop-self.self.at) (drop_of_length-le _ c.loop-self-test.false) in
-    record { words = (c.loop-self.invariant.1 ∙ e, e); same = c.loop-self.invariant.0; on = c.loop-self.invariant.2; within = omega arith }
+pub returns-in-Ok-Some-clause-words : goal.returns-in-Ok-Some-clause-words
+returns-in-Ok-Some-clause-words c =
+    let l = c.loop-place in
+    let p = c.pass-bytes.ensures in
+    let f = rw c.in-Ok-Some.field-0-is at c.in-Ok-Some.ensures in
+    let n = f.inside in
+    (rw (p.bytes, p.rest, p.at) (l.invariant.words ∙ takes_step l.self.rest.now l.self.at c.in-Ok-Some.kind c.in-Ok-Some.len n.0 f.front), omega (arith, n.0, l.invariant.on, p.at))
