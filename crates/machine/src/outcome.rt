@@ -1,6 +1,7 @@
 use lang::fault::Fault;
 use lang::refusal::Refusal;
 use lang::stack::Full;
+use std::fmt;
 
 // Why an instruction leads nowhere: a fault, or nothing that it says can be done. No instruction of checked code
 // is `Stuck`.
@@ -34,6 +35,19 @@ pub enum Outcome {
 pub struct Ran {
     pub outcome: Outcome,
     pub steps: u32,
+}
+
+// How the run ended, and its steps last.
+impl fmt::Display for Ran {
+    fn fmt<W: fmt::Write>(&self, f: &mut fmt::Formatter<W>) -> fmt::Result {
+        match self.outcome {
+            Outcome::Done => write!(f, "done {}", self.steps),
+            Outcome::Fault { fault, place } => write!(f, "fault {fault} {place} {}", self.steps),
+            // neither happens to a checked rule that has all its steps
+            Outcome::Paused => write!(f, "paused {}", self.steps),
+            Outcome::Stuck => write!(f, "stuck {}", self.steps),
+        }
+    }
 }
 
 impl From<Fault> for Halt {

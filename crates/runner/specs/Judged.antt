@@ -1,5 +1,5 @@
 -- What a judged rule leaves of the sheet.
-use Rattle.std.specs.Prelude.{◌≡◌, Ok, Err, Result, ⊥}
+use Rattle.std.specs.Prelude.{◌≡◌, Ok, Err, Result}
 use Rattle.lang.specs.declared.sheet.Sheet.{Sheet}
 use Rattle.machine.specs.declared.outcome.Ran.{Ran}
 use Rattle.runner.specs.declared.unjudged.Unjudged.{Unjudged}

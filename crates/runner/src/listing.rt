@@ -1,3 +1,4 @@
+use crate::judge::Memory;
 use crate::owned::Owned;
 use crate::report::refusal_line;
 use crate::unjudged::Unjudged;
@@ -20,10 +21,16 @@ fn lines(heap: Global, code: &Code) -> Result<String, AllocError> {
 // The code of a text over a sheet, a line for each instruction, or the line of its refusal.
 pub fn listing(heap: Global, text: &[u8], sheet: &Sheet) -> Result<String, Unjudged> {
     let mut owned = Owned::new(heap)?;
-    let memory = owned.lend();
-    let mut tree = Tree::over(memory.nodes)?;
-    let mut records = Stack::over(memory.names);
-    let mut code = Code::over(memory.instructions, memory.places)?;
+    let Memory {
+        nodes,
+        names,
+        instructions,
+        places,
+        ..
+    } = owned.lend();
+    let mut tree = Tree::over(nodes)?;
+    let mut records = Stack::over(names);
+    let mut code = Code::over(instructions, places)?;
     match load(text, sheet, &mut tree, &mut records, &mut code) {
         Err(refused) => Ok(refusal_line(heap, refused)?),
         Ok(_) => Ok(lines(heap, &code)?),
