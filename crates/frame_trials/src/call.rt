@@ -1,5 +1,3 @@
-use frames::frame_memory::FrameMemory;
-use frames::links::Links;
 use frames::memory::{BuildFrames, ReadFrames};
 use lang::value::Slot;
 
@@ -44,22 +42,26 @@ pub fn answered<T: Drop, E: Into<u8> + Drop, F: FnOnce(T) -> Answer + Drop>(
     }
 }
 
-impl<'m, L: Links<'m>> Answers for FrameMemory<'m, L> {
+// A frame memory on trial.
+#[derive(Drop)]
+pub struct Tried<F>(pub F);
+
+impl<F: BuildFrames + Drop> Answers for Tried<F> {
     fn answer(&mut self, call: Call) -> Answer {
         match call {
-            Call::Get(hops, offset) => answered(self.get(hops, offset), Answer::Holds),
-            Call::FrameCount => Answer::Count(self.frame_count()),
-            Call::SlotCount => Answer::Count(self.slot_count()),
-            Call::SlotsOut(hops) => answered(self.slots_out(hops), Answer::Count),
+            Call::Get(hops, offset) => answered(self.0.get(hops, offset), Answer::Holds),
+            Call::FrameCount => Answer::Count(self.0.frame_count()),
+            Call::SlotCount => Answer::Count(self.0.slot_count()),
+            Call::SlotsOut(hops) => answered(self.0.slots_out(hops), Answer::Count),
             Call::Clear => {
-                self.clear();
+                self.0.clear();
                 Answer::Done
             }
-            Call::Open(n) => answered(self.open(n), |_| Answer::Done),
-            Call::Enter(hops, n) => answered(self.enter(hops, n), |_| Answer::Done),
-            Call::Leave => answered(self.leave(), |_| Answer::Done),
+            Call::Open(n) => answered(self.0.open(n), |_| Answer::Done),
+            Call::Enter(hops, n) => answered(self.0.enter(hops, n), |_| Answer::Done),
+            Call::Leave => answered(self.0.leave(), |_| Answer::Done),
             Call::Put(hops, offset, slot) => answered(
-                self.put(hops, offset, slot),
+                self.0.put(hops, offset, slot),
                 |_| Answer::Done,
             ),
         }

@@ -1,12 +1,10 @@
-use crate::call::{Answer, Answers, Call};
+use crate::call::{Answer, Answers, Call, Tried};
 use crate::counter::{Counter, Mixture};
 use crate::model::Model;
 use crate::step::Step;
 use crate::{edges, limits};
-use frames::chain::{Chain, Parents};
-use frames::display::{Display, Levels};
-use frames::frame_memory::FrameMemory;
-use frames::links::Links;
+use frames::chain::Chain;
+use frames::display::Display;
 use lang::refusal::Refusal;
 use lang::value::Slot;
 use std::alloc::{AllocError, Global};
@@ -59,8 +57,16 @@ impl Lent {
         })
     }
 
-    fn over<'m, L: Links<'m>>(&'m mut self) -> Result<FrameMemory<'m, L>, Refusal> {
-        FrameMemory::over(
+    fn chain(&mut self) -> Result<Chain<'_>, Refusal> {
+        Chain::over(
+            self.links.as_mut_slice(),
+            self.starts.as_mut_slice(),
+            self.slots.as_mut_slice(),
+        )
+    }
+
+    fn display(&mut self) -> Result<Display<'_>, Refusal> {
+        Display::over(
             self.links.as_mut_slice(),
             self.starts.as_mut_slice(),
             self.slots.as_mut_slice(),
@@ -182,8 +188,8 @@ const MIXTURES: [Mixture; 5] = [
 struct Trio<'c, 'd> {
     trial: &'static str,
     heap: Global,
-    chain: Chain<'c>,
-    display: Display<'d>,
+    chain: Tried<Chain<'c>>,
+    display: Tried<Display<'d>>,
     model: Model,
     tally: Tally,
 }
@@ -192,8 +198,8 @@ impl<'c, 'd> Trio<'c, 'd> {
     fn new(
         trial: &'static str,
         heap: Global,
-        chain: Chain<'c>,
-        display: Display<'d>,
+        chain: Tried<Chain<'c>>,
+        display: Tried<Display<'d>>,
     ) -> Trio<'c, 'd> {
         let tally = Tally {
             done: 0,
@@ -315,7 +321,7 @@ impl<'c, 'd> Trio<'c, 'd> {
 fn play(trial: &'static str, heap: Global, steps: &[Step], seed: Option<u64>) -> Result<(), Fail> {
     let mut chain = Lent::dirty(heap, 256, 256, 2048)?;
     let mut display = Lent::dirty(heap, 4096, 256, 2048)?;
-    let (chain, display) = (chain.over()?, display.over()?);
+    let (chain, display) = (Tried(chain.chain()?), Tried(display.display()?));
     let mut trio = Trio::new(trial, heap, chain, display);
     trio.compare(None)?;
     trio.follow(steps, seed)
@@ -355,18 +361,18 @@ fn short_memory(rt: HostRuntime) -> Result<(), Fail> {
     let heap = rt.alloc();
     for (parents, levels, starts, slots) in SHORT {
         let mut lent = Lent::dirty(heap, parents, starts, slots)?;
-        assert_eq!(rt; number(lent.over::<Parents>()), 1);
+        assert_eq!(rt; number(lent.chain()), 1);
         let mut lent = Lent::dirty(heap, levels, starts, slots)?;
-        assert_eq!(rt; number(lent.over::<Levels>()), 1);
+        assert_eq!(rt; number(lent.display()), 1);
     }
     let mut lent = Lent::dirty(heap, 256, 256, 2048)?;
-    assert_eq!(rt; number(lent.over::<Parents>()), 0);
+    assert_eq!(rt; number(lent.chain()), 0);
     let mut lent = Lent::dirty(heap, 257, 300, 2049)?;
-    assert_eq!(rt; number(lent.over::<Parents>()), 0);
+    assert_eq!(rt; number(lent.chain()), 0);
     let mut lent = Lent::dirty(heap, 4096, 256, 2048)?;
-    assert_eq!(rt; number(lent.over::<Levels>()), 0);
+    assert_eq!(rt; number(lent.display()), 0);
     let mut lent = Lent::dirty(heap, 4097, 300, 2049)?;
-    assert_eq!(rt; number(lent.over::<Levels>()), 0);
+    assert_eq!(rt; number(lent.display()), 0);
     Ok(())
 }
 

@@ -4,7 +4,7 @@
 pub mod chain;
 pub mod display;
 pub mod frame_memory;
-pub mod links;
+mod links;
 pub mod memory;
 pub mod passage;
 mod slots;

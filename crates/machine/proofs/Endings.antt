@@ -1,7 +1,6 @@
 -- A whole run over a sheet, against the rule's meaning.
-use Rattle.std.proofs.Common.{◌≡◌, ℕ, zero, suc, ◌+◌, ◌-◌, ◌<◌, ◌≤◌, List, [], ◌∷◌, ◌++◌, map, length, take, get_or, set, Some, None, Ok, Option, Result, sym, refl, ap, ◌∙◌, subst, ap₂, add-one, arith}
+use Rattle.std.proofs.Common.{◌≡◌, ℕ, zero, suc, ◌+◌, ◌-◌, ◌<◌, ◌≤◌, List, [], ◌∷◌, map, length, Some, None, Ok, Option, Result, sym, refl, ap, ◌∙◌, subst, ap₂, add-one, arith}
 use Rattle.std.specs.List.{slice_get}
-use Rattle.std.proofs.lemmas.List.{length-map, take_more, take_more_set, get_or-map}
 use Rattle.std.proofs.lemmas.Option.{slice_get_past}
 use Rattle.std.proofs.lemmas.Simd.{map-map}
 use Rattle.lang.specs.declared.refusal.Refusal.{Refusal}
@@ -36,13 +35,6 @@ use Rattle.machine.proofs.Steps.{step_past, goes-both, goes_then}
 -- the entries' values, and the first frame that holds them
 abbrev pub values_of : List Entry → List Value
 values_of es = map (λ e. e.value) es
-
--- one value more at the front of a table
-pub values_more : (t : List Value) (es : List Entry) (i : ℕ) (d : Entry) → i < length t → i < length es → take i t ≡ take i (values_of es) → take (i + 1) (set t i (get_or es i d).value) ≡ take (i + 1) (values_of es)
-values_more t es i d l h e =
-    let v = (get_or es i d).value in
-    take_more_set t i v l ∙ ap (λ vs. vs ++ (v ∷ [])) e ∙ ap (λ w. take i (values_of es) ++ (w ∷ [])) (sym (get_or-map (λ e. e.value) es i d v h))
-    ∙ sym (take_more (values_of es) i v (omega (arith, h, length-map es (λ e. e.value))))
 
 -- a run over the entries begins from their values
 pub begun : (es : List Entry) (vs : List Value) → vs ≡ values_of es → idle (start_frames vs) ≡ start es

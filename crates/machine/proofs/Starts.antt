@@ -1,47 +1,23 @@
--- The first frame, slot by slot.
-use Rattle.std.proofs.Common.{◌≡◌, ℕ, zero, suc, ◌+◌, ◌<◌, true, cond, ltb, List, [], ◌∷◌, map, length, get_or, set, replicate, None, sym, refl, ap, ◌∙◌, add-one, arith}
+-- Lists that a loop fills from the front: a table, and the slots of the first frame.
+use Rattle.std.proofs.Common.{◌≡◌, ℕ, ◌+◌, ◌<◌, true, cond, ltb, List, [], ◌∷◌, ◌++◌, map, length, take, get_or, set, None, sym, ap, ◌∙◌, arith}
 use Rattle.std.proofs.lemmas.Bool.{lt-ltb}
-use Rattle.lang.specs.declared.value.Value.{Value}
+use Rattle.std.proofs.lemmas.List.{length-map, take_more, take_more_set, get_or-map}
 use Rattle.lang.specs.declared.value.Slot.{Slot}
-use Rattle.lang.specs.declared.value.Slot.TheVariants.{Unset}
 use Rattle.lang.specs.declared.refusal.Refusal.TheVariants.{NoSuchSlot}
-use Rattle.lang.specs.Values.{slot_of}
 use Rattle.frames.specs.Frames.{Frames, none, ◌▷◌, written, done, refused, filled_in}
 
--- the slots of which the first o hold their values
-abbrev pub partly : ℕ → List Value → List Slot
-partly o [] = []
-partly zero (v ∷ vs) = Unset ∷ partly zero vs
-partly (suc o) (v ∷ vs) = slot_of v ∷ partly o vs
+-- one element more
+pub front_more : {X Y : Type 0} (f : X → Y) (ys : List Y) (xs : List X) (i : ℕ) (d : X) → i < length ys → i < length xs → take i ys ≡ take i (map f xs) → take (i + 1) (set ys i (f (get_or xs i d))) ≡ take (i + 1) (map f xs)
+front_more f ys xs i d l h e =
+    let y = f (get_or xs i d) in
+    take_more_set ys i y l ∙ ap (λ zs. zs ++ (y ∷ [])) e ∙ ap (λ z. take i (map f xs) ++ (z ∷ [])) (sym (get_or-map f xs i d y h))
+    ∙ sym (take_more (map f xs) i y (omega (arith, h, length-map xs f)))
 
-abbrev pub frame : ℕ → List Value → Frames
-frame o vs = none ▷ record { slots = partly o vs; parent = None }
+abbrev pub frame : List Slot → Frames
+frame ss = none ▷ record { slots = ss; parent = None }
 
-pub partly_none : (vs : List Value) → replicate (length vs) Unset ≡ partly zero vs
-partly_none [] = refl
-partly_none (v ∷ vs) = ap (λ r. Unset ∷ r) (partly_none vs)
-
-pub partly_all : (vs : List Value) → partly (length vs) vs ≡ map slot_of vs
-partly_all [] = refl
-partly_all (v ∷ vs) = ap (λ r. slot_of v ∷ r) (partly_all vs)
-
-length-partly : (o : ℕ) (vs : List Value) → length (partly o vs) ≡ length vs
-length-partly zero [] = refl
-length-partly (suc o) [] = refl
-length-partly zero (v ∷ vs) = ap suc (length-partly zero vs)
-length-partly (suc o) (v ∷ vs) = ap suc (length-partly o vs)
-
-partly_more : (o : ℕ) (vs : List Value) (d : Value) → o < length vs → set (partly o vs) o (slot_of (get_or vs o d)) ≡ partly (suc o) vs
-partly_more o [] d h = absurd (omega arith)
-partly_more zero (v ∷ vs) d h = refl
-partly_more (suc o) (v ∷ vs) d h = ap (λ r. slot_of v ∷ r) (partly_more o vs d (omega arith))
-
--- one value more in its slot
-pub frame_more : (o : ℕ) (vs : List Value) (d : Value) → o < length vs → (written (frame o vs) 0 o (slot_of (get_or vs o d))).after ≡ frame (o + 1) vs
-frame_more o vs d h =
-    let w = slot_of (get_or vs o d) in
-    let fs = frame o vs in
-    let l = length-partly o vs in
-    let t : ltb o (length (partly o vs)) ≡ true = lt-ltb o (length (partly o vs)) (omega arith) in
-    ap (λ b. (cond b (done (filled_in 0 o w fs)) (refused NoSuchSlot fs)).after) t
-    ∙ ap (λ ss. none ▷ record { slots = ss; parent = None }) (partly_more o vs d h ∙ ap (λ j. partly j vs) (sym (add-one o)))
+-- a write to the first frame
+pub frame_written : (ss : List Slot) (o : ℕ) (w : Slot) → o < length ss → (written (frame ss) 0 o w).after ≡ frame (set ss o w)
+frame_written ss o w h =
+    let inside : ltb o (length ss) ≡ true = lt-ltb o (length ss) h in
+    ap (λ b. (cond b (done (filled_in 0 o w (frame ss))) (refused NoSuchSlot (frame ss))).after) inside

@@ -31,10 +31,9 @@ fn truth(v: Value) -> Result<bool, Fault>
 fn ranged(z: i64) -> Result<Value, Fault>
     ensures { result ≡ ranged_in z }
 {
-    match i32::try_from(z) {
-        Ok(z) => Ok(Value::Number(z)),
-        Err(_) => Err(Fault::Range),
-    }
+    i32::try_from(z)
+        .map(Value::Number)
+        .map_err(|_| Fault::Range)
 }
 
 fn sum(a: i32, b: i32) -> i64

@@ -3,8 +3,8 @@ use lang::refusal::Refusal;
 use lang::stack::Full;
 use std::fmt;
 
-// Why an instruction leads nowhere: a fault, or nothing that it says can be done. No instruction of checked code
-// is `Stuck`.
+// Why a run does not go on after an instruction: it ends in a fault, or cannot be done. No instruction of checked
+// code is `Stuck`.
 #[derive(Clone, Copy, PartialEq, Eq, Debug)]
 pub enum Halt {
     Fault(Fault),

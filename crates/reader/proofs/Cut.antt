@@ -2,7 +2,6 @@
 use Rattle.std.proofs.Common.{◌≡◌, ℕ, zero, suc, ◌+◌, ◌-◌, ◌<◌, Bool, true, false, List, [], ◌∷◌, take, drop, Some, None, Ok, Err, sym, refl, ap, ◌∙◌, add-zero, add-one, arith}
 use borrow.Author.Tests.{clash}
 use Rattle.lang.specs.declared.word.Kind.{Kind}
-use Rattle.lang.specs.declared.refusal.Refusal.{Refusal}
 use Rattle.reader.specs.Words.{Front, front, Lexed, lexed, word, wrong}
 
 -- the bytes of a word that was met are passed over
@@ -24,11 +23,6 @@ pub blank_step : (bs : List ℕ) (i : ℕ) → Ok None ≡ front bs → lexed bs
 unfolding over
 blank_step [] i e = refl
 blank_step (b ∷ bs) i e = ap (over b bs i) (sym e) ∙ rw add-one refl
-
-pub wrong_step : (bs : List ℕ) (i : ℕ) (r : Refusal) → Err r ≡ front bs → lexed bs 0 i ≡ wrong r i
-unfolding over stands
-wrong_step [] i r e = absurd (clash (sym (ap stands e)))
-wrong_step (b ∷ bs) i r e = ap (over b bs i) (sym e)
 
 pub takes_step : (bs : List ℕ) (i : ℕ) (k : Kind) (n : ℕ) → 0 < n → Ok (Some (k, n)) ≡ front bs → lexed bs 0 i ≡ word k (take n bs) i (lexed (drop n bs) 0 (i + n))
 unfolding over stands

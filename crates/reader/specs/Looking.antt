@@ -88,7 +88,7 @@ pub record Lists {X : Type 0} (a b : Reader) (r : Result X Refused) : Type 0 whe
   pub tree : Grew a b
   pub read : OnOk r (Went a b)
 
--- what a word does: the table is as it was
+-- what a word or a list of words does: the table is as it was
 pub record Took {X : Type 0} (a b : Reader) (r : Result X Refused) : Type 0 where
   pub tree : b.tree ≡ a.tree
   pub read : OnOk r (Passed a b)

@@ -2,6 +2,7 @@ ghost use Rattle.std.specs.Prelude.{◌≡◌};
 ghost use Rattle.reader.specs.Numbers.{decimal, number_of};
 
 // The number that the digits write; none where it is over 2,147,483,647.
+#[tactic(auto, using(crate::proofs::Decimal::past))]
 pub fn value(digits: &[u8]) -> Option<i32>
     ensures { result ≡ number_of (decimal 0 digits.now) }
 {

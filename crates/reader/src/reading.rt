@@ -21,7 +21,7 @@ fn read_rule(text: &[u8], tree: &mut Tree) -> Result<(), Refused>
         tree,
     };
     let read = reader.rule();
-    // The reader gives the tree back.
+    // The tree is taken out: what else it holds would hide from a proof what the reader leaves of it.
     let _tree = reader.tree;
     read
 }

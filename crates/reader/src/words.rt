@@ -92,6 +92,7 @@ impl<'t> Words<'t> {
     ghost use Rattle.reader.specs.Lexing.{end_of, Next, Begun};
 
     // The words of a text from its first byte on; past the 32,768th it is cut off.
+    #[tactic(auto, using(std::proofs::lemmas::List::take_min))]
     pub fn over(text: &'t [u8]) -> Words<'t>
         ensures { Begun text.now result }
     {

@@ -1,13 +1,10 @@
 use crate::judge::{MOST_NAMES, Memory, judge};
 use crate::unjudged::Unjudged;
-use frames::chain::Parents;
-use frames::display::Levels;
-use frames::frame_memory::FrameMemory;
-use frames::links::Links;
+use frames::chain::Chain;
+use frames::display::Display;
 use frames::memory::BuildFrames;
 use lang::code::MOST_CODE;
 use lang::instruction::Instruction;
-use lang::refusal::Refusal;
 use lang::sheet::Sheet;
 use lang::value::{Slot, Value};
 use machine::outcome::Ran;
@@ -69,11 +66,6 @@ impl OwnedFrames {
             slots: vec![in heap; Slot::Unset; 2048]?,
         })
     }
-
-    // A frame memory in all of it.
-    fn lend<'m, L: Links<'m>>(&'m mut self) -> Result<FrameMemory<'m, L>, Refusal> {
-        FrameMemory::over(&mut self.links, &mut self.starts, &mut self.slots)
-    }
 }
 
 // Judges a rule in memory from the heap, over any frame memory.
@@ -90,11 +82,13 @@ fn judge_over<F: BuildFrames + Drop>(
 // Judges a rule over a static chain.
 pub fn judge_over_chain(heap: Global, text: &[u8], sheet: &mut Sheet) -> Result<Ran, Unjudged> {
     let mut owned = OwnedFrames::new(heap, 256)?;
-    judge_over(heap, text, sheet, owned.lend::<Parents>()?)
+    let chain = Chain::over(&mut owned.links, &mut owned.starts, &mut owned.slots)?;
+    judge_over(heap, text, sheet, chain)
 }
 
 // Judges a rule over a display.
 pub fn judge_over_display(heap: Global, text: &[u8], sheet: &mut Sheet) -> Result<Ran, Unjudged> {
     let mut owned = OwnedFrames::new(heap, 4096)?;
-    judge_over(heap, text, sheet, owned.lend::<Levels>()?)
+    let display = Display::over(&mut owned.links, &mut owned.starts, &mut owned.slots)?;
+    judge_over(heap, text, sheet, display)
 }

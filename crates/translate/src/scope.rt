@@ -31,7 +31,7 @@ pub struct Outer {
     depth: u8,
 }
 
-impl<'t, 'm, 's, 'n> Scope<'t, 'm, 's, 'n> {
+impl Scope<'_, '_, '_, '_> {
     // The level of the innermost frame.
     fn level(&self) -> u8 {
         self.depth.saturating_sub(1)
@@ -147,13 +147,7 @@ impl<'t, 'm, 's, 'n> Scope<'t, 'm, 's, 'n> {
         let (routine, before) = routines.split_routine(self.tree)?;
         let least = self.declare_routines(before);
         let slot = routine.slot as usize;
-        let declared = self.declare(
-            routine.name,
-            routine.sort(),
-            slot,
-            MOST_SLOTS,
-            routine.at,
-        );
+        let declared = self.declare(routine.name, routine.sort(), slot, MOST_SLOTS, routine.at);
         lesser(least, declared.err())
     }
 

@@ -173,7 +173,10 @@ pub fn expr_at(tree: &Tree, n: usize) -> Option<Expr>
 {
     let node = tree.node(n);
     let Info {
-        label, place, name, ..
+        label,
+        place,
+        name,
+        ..
     } = node.info;
     match label {
         Label::Number(z) => Some(Expr::Literal {

@@ -18,8 +18,8 @@ fn take_two(values: &mut Stack<Value>) -> Option<(Value, Value)>
     Some((p, q))
 }
 
-// The instructions that work on the waiting values alone. In checked code the operands wait. Each answers the position
-// of the next instruction.
+// The instructions that work on the waiting values alone. In checked code the operands wait.
+// Each answers the position of the next instruction.
 impl<'m, F: BuildFrames + Drop> Machine<'m, F> {
     // One more value waits.
     pub(super) fn give(&mut self, here: Position, v: Value) -> Result<usize, Halt>

@@ -1,5 +1,5 @@
-ghost use Rattle.std.specs.Prelude.{◌≡◌};
-ghost use Rattle.reader.specs.Looking.{Gone, Lists};
+ghost use Rattle.std.specs.Prelude.{◌≡◌, OnOk};
+ghost use Rattle.reader.specs.Looking.{Gone, Lists, Took, Went};
 
 use crate::grammar::Reader;
 use crate::grammar::build::{Params, named};
@@ -47,7 +47,7 @@ impl<'t, 'm> Reader<'t, 'm> {
 
     // '(' names ')': a comma list of none or more.
     pub fn params(&mut self) -> Result<Params, Refused>
-        ensures { Gone self.old self.new result }
+        ensures { Took self.old self.new result }
     {
         self.expect(Kind::Open)?;
         let names = self.names()?;
@@ -57,7 +57,8 @@ impl<'t, 'm> Reader<'t, 'm> {
 
     // A comma list of names, up to its ')'.
     fn names(&mut self) -> Result<Params, Refused>
-        ensures { Lists self.old self.new result }
+        ensures tree { self.new.tree ≡ self.old.tree }
+        ensures read { OnOk result (Went self.old self.new) }
     {
         let mut params = Params::none();
         if self.next_is(Kind::Close) {

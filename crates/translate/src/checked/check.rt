@@ -18,7 +18,7 @@ const MOST_FRAMES: u8 = 16;
 
 // Looks for violations, of which the least is kept.
 #[derive(Drop)]
-pub struct Checker<'c, 't, 'm, 's, 'n> {
+struct Checker<'c, 't, 'm, 's, 'n> {
     scope: &'c mut Scope<'t, 'm, 's, 'n>,
     least: Option<Refused>,
 }
@@ -55,7 +55,7 @@ fn violation(scope: &mut Scope) -> Option<Refused>
     checker.least
 }
 
-impl<'c, 't, 'm, 's, 'n> Checker<'c, 't, 'm, 's, 'n> {
+impl Checker<'_, '_, '_, '_, '_> {
     // One violation more, if there is one.
     fn note(&mut self, found: Option<Refused>)
         ensures { CheckerKeeps self.old self.new }
@@ -133,7 +133,8 @@ impl<'c, 't, 'm, 's, 'n> Checker<'c, 't, 'm, 's, 'n> {
         }
     }
 
-    // The lists of a tree are recursions: they go in order, and can be stepped through only from the end back.
+    // A list is checked in order and can be stepped through only from its end back. With no heap to turn it round in,
+    // each kind of list is a recursion.
     #[cycle(expression_checks)]
     fn check_args(&mut self, args: Nodes)
         ensures { CheckerKeeps self.old self.new }

@@ -15,7 +15,7 @@ use lang::stack::Stack;
 
 // Writes code in the order of the text.
 #[derive(Drop)]
-pub struct Writer<'w, 't, 'm, 's, 'n, 'c, 'i> {
+struct Writer<'w, 't, 'm, 's, 'n, 'c, 'i> {
     scope: &'w mut Scope<'t, 'm, 's, 'n>,
     code: &'c mut Code<'i>,
 }
@@ -53,7 +53,7 @@ fn write(scope: &mut Scope, code: &mut Code)
     writer.write_rule();
 }
 
-impl<'w, 't, 'm, 's, 'n, 'c, 'i> Writer<'w, 't, 'm, 's, 'n, 'c, 'i> {
+impl Writer<'_, '_, '_, '_, '_, '_, '_> {
     // One instruction more; a checked tree has at most three for each node, so there is room.
     fn emit(&mut self, instruction: Instruction, place: u16)
         ensures { WriterKeeps self.old self.new }
@@ -154,7 +154,8 @@ impl<'w, 't, 'm, 's, 'n, 'c, 'i> Writer<'w, 't, 'm, 's, 'n, 'c, 'i> {
         }
     }
 
-    // The lists of a tree are recursions: they go in order, and can be stepped through only from the end back.
+    // A list is written in order and can be stepped through only from its end back. With no heap to turn it round in,
+    // each kind of list is a recursion.
     #[cycle(expression_code)]
     fn write_args(&mut self, args: Nodes)
         ensures { WriterKeeps self.old self.new }

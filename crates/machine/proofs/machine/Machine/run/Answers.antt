@@ -1,5 +1,4 @@
-use Rattle.std.proofs.Common.{◌≡◌, ◌+◌, ◌-◌, ◌<◌, ◌≤◌, length, sym, refl, ap, ◌∙◌, arith}
-use Rattle.std.proofs.lemmas.List.{length-map}
+use Rattle.std.proofs.Common.{◌≡◌, ◌+◌, ◌-◌, ◌<◌, ◌≤◌, sym, ap, ◌∙◌, arith}
 use Rattle.meaning.specs.Machine.{go, stop, stuck, goes}
 use Rattle.machine.specs.Shows.{seen}
 use Rattle.machine.proofs.Steps.{goes_none, goes_then, goes_on}
@@ -18,14 +17,6 @@ loop-preserved g c =
           let d = c.in-On.ensures.1 ps h v.0 in
           (d.0, goes_on ps c.loop.counter (seen frames c.args.self.now) (seen frames c.loop.self) (seen frames c.step.new.self) v.1 d.1),
     )
-
-pub overflow_sub-result : goal.overflow_sub-result
-overflow_sub-result g c =
-    elim c.match-step.branch [
-      | in-Ended w ↦ omega (arith, w.in-Ended.ensures.0, c.loop.invariant.0)
-      | in-Stop w ↦ omega (arith, w.in-Stop.ensures.0.0, c.loop.invariant.0)
-      | in-Stuck w ↦ omega (arith, w.in-Stuck.ensures.0, c.loop.invariant.0)
-    ]
 
 pub returns-in-loop : goal.returns-in-loop
 returns-in-loop g c = λ ps h r.
@@ -53,22 +44,3 @@ returns-in-loop g c = λ ps h r.
           (d.0, rw w.outcome-is (goes_then ps i n a k (stop f p b.steps) less v.1 d.1 ∙ ap (stop f p) since, most))
       | in-Stuck w ↦ let d = w.in-Stuck.ensures.1 ps h v.0 in (d.0, rw w.outcome-is (goes_then ps i n a k stuck less v.1 d.1))
     ]
-
-pub returns-then-self-len : goal.returns-then-self-len
-returns-then-self-len g c = λ ps h r.
-    let n = c.args.budget in
-    let a = seen g.F.ReadFrames.frames c.args.self.now in
-    let v = c.loop.invariant.1 ps h r in
-    let q : n ≡ c.loop.counter = omega arith in
-    let before : c.loop.self.at < length ps = omega (arith, c.len.ensures, ap length h.whats, length-map ps (λ l. l.0), c.if-self-len.true) in
-    (v.0, (ap (λ j. goes ps j a) q ∙ v.1, before, c.loop.invariant.0 ∙ ap (λ j. a.steps + j) (sym q), refl))
-
-pub returns-else-self-len : goal.returns-else-self-len
-returns-else-self-len g c = λ ps h r.
-    let n = c.args.budget in
-    let a = seen g.F.ReadFrames.frames c.args.self.now in
-    let v = c.loop.invariant.1 ps h r in
-    let q : n ≡ c.loop.counter = omega arith in
-    let past : length ps ≤ c.loop.self.at = omega (arith, c.len.ensures, ap length h.whats, length-map ps (λ l. l.0), c.if-self-len.false) in
-    let same : n ≤ n = omega arith in
-    (v.0, (ap (λ j. goes ps j a) q ∙ v.1, past, c.loop.invariant.0 ∙ ap (λ j. a.steps + j) (sym q), same))
