@@ -28,7 +28,8 @@ pub fn class_of(b: u8) -> Class
     }
 }
 
-// Whether a byte can stand in a name, after its first letter.
+// Whether a byte can stand in a name, after its first letter. This, `in_number` and `is_letter` are one line each, which
+// a function that takes the classes would make no plainer.
 pub fn in_name(b: u8) -> bool
     ensures { result ≡ name_byte b }
 {

@@ -43,7 +43,7 @@ pub enum Instruction {
 }
 
 impl Instruction {
-    // The instruction's number and its three operands, 0 where it has none.
+    // The instruction's number and its three operands, 0 where it has none. A method, since `From` would not name them.
     pub fn parts(self) -> [i64; 4]
         ensures { result ≡ parts_of self }
     {

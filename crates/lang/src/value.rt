@@ -68,7 +68,7 @@ impl fmt::Display for Value {
 }
 
 impl Slot {
-    // The value that a slot holds, if it holds one.
+    // The value that a slot holds, if it holds one. No `TryFrom`, which would want an error to name.
     pub fn value(self) -> Option<Value>
         ensures { result ≡ value_in self }
     {

@@ -68,6 +68,9 @@ pub fn negated(v: Value) -> Result<Value, Fault>
     Ok(Value::Truth(!b))
 }
 
+// Each operator is two lines. One function that takes the operation would state its clause by the closure's, and be no
+// plainer.
+
 pub fn added(p: Value, q: Value) -> Result<Value, Fault>
     ensures { result ≡ worked add p q }
 {

@@ -79,7 +79,8 @@ fn judge_over<F: BuildFrames + Drop>(
     judge(text, sheet, owned.lend(), frames)
 }
 
-// Judges a rule over a static chain.
+// Judges a rule over a static chain. This and the next differ in a type: a generic function would have to name the
+// trait of the links, which `frames` does not hand out.
 pub fn judge_over_chain(heap: Global, text: &[u8], sheet: &mut Sheet) -> Result<Ran, Unjudged> {
     let mut owned = OwnedFrames::new(heap, 256)?;
     let chain = Chain::over(&mut owned.links, &mut owned.starts, &mut owned.slots)?;

@@ -33,7 +33,7 @@ pub fn is_name(bytes: &[u8]) -> bool
     reserved_of(bytes) == Kind::Name
 }
 
-// The value that the host means by a kind and a number.
+// The value that the host means by a kind and a number: two numbers, so no `TryFrom`.
 pub fn value_of(kind: u8, value: i64) -> Option<Value>
     ensures { result ≡ value_of kind value }
 {
