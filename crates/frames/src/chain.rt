@@ -18,7 +18,7 @@ pub struct Parents<'m> {
     ghost room: { 256 ≤ length parents.now },
 }
 
-// The link to the parent of the frame numbered at.
+// The link to the parent of the frame numbered at. A match, since in a closure the cast would lack the guard's fact.
 fn encoded(parent: Option<usize>, at: usize) -> u16
     requires { at < 256 }
     ensures is { Within parent at → before result ≡ parent }
