@@ -14,7 +14,7 @@ use translate::record::{NO_RECORD, Record};
 
 // The memory for one rule, but for its frames, from the heap.
 #[derive(Drop)]
-pub struct Owned {
+pub(crate) struct Owned {
     nodes: Vec<Node>,
     names: Vec<Record>,
     instructions: Vec<Instruction>,
@@ -25,7 +25,7 @@ pub struct Owned {
 
 impl Owned {
     // Enough of each kind.
-    pub fn new(heap: Global) -> Result<Owned, AllocError> {
+    pub(crate) fn new(heap: Global) -> Result<Owned, AllocError> {
         Ok(Owned {
             nodes: vec![in heap; BLANK; 4096]?,
             names: vec![in heap; NO_RECORD; MOST_NAMES]?,
@@ -37,7 +37,7 @@ impl Owned {
     }
 
     // All of it, to judge with.
-    pub fn lend(&mut self) -> Memory<'_> {
+    pub(crate) fn lend(&mut self) -> Memory<'_> {
         Memory {
             nodes: &mut self.nodes,
             names: &mut self.names,
