@@ -46,11 +46,3 @@ FallsRoutine n (Some d) = (d.start < n) × (d.body + 1 < n)
 abbrev pub FallsSplit : ℕ → Option (ℕ × Nodes) → Type 0
 FallsSplit n None = Unit {0}
 FallsSplit n (Some p) = (p.0 < n) × (p.1.end < n)
-
-abbrev pub FallsSplitDatum : ℕ → Option (Datum × Nodes) → Type 0
-FallsSplitDatum n None = Unit {0}
-FallsSplitDatum n (Some p) = (p.0.value < n) × (p.1.end < n)
-
-abbrev pub FallsSplitRoutine : ℕ → Option (Routine × Nodes) → Type 0
-FallsSplitRoutine n None = Unit {0}
-FallsSplitRoutine n (Some p) = (p.0.body + 1 < n) × (p.1.end < n)

@@ -1,5 +1,5 @@
 use crate::record::{Found, Record, Sort};
-use crate::view::Nodes;
+use crate::view::{Nodes, routine_below};
 use lang::name::Name;
 use reader::tree::Tree;
 
@@ -7,8 +7,10 @@ use reader::tree::Tree;
 fn among(tree: &Tree, routines: Nodes, name: Name) -> Option<Sort> {
     let mut first = None;
     let mut rest = routines;
-    while let Some((routine, before)) = rest.split_routine(tree) {
-        if name == routine.name {
+    while let Some((_, before)) = rest.split_last(tree) {
+        if let Some(routine) = routine_below(tree, rest.end)
+            && name == routine.name
+        {
             first = Some(routine.sort());
         }
         rest = before;

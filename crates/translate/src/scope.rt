@@ -2,7 +2,7 @@ ghost use Rattle.translate.specs.Rooms.{KeepsNames};
 
 use crate::lookup::{in_record, inner};
 use crate::record::{Found, Record, Sort};
-use crate::view::{Nodes, Routine};
+use crate::view::{Nodes, Routine, routine_below};
 use crate::violation::lesser;
 use lang::name::Name;
 use lang::narrow::{byte, short};
@@ -132,20 +132,24 @@ impl Scope<'_, '_, '_, '_> {
         ensures { KeepsNames self.old self.new }
     {
         let params = self.tree.node(routine.node).info.params;
+        let count = routine.count as usize;
         let mut least = None;
-        for (i, p) in params.iter().take(routine.count as usize).enumerate() {
+        for (i, p) in params.iter().take(count).enumerate() {
             let declared = self.declare(p.name, Sort::Constant, i, MOST_PARAMS, p.at);
             least = lesser(least, declared.err());
         }
         least
     }
 
-    // The routines of a block join its names; the least violation.
+    // The routines of a block join its names, in order; the least violation.
     pub fn declare_routines(&mut self, routines: Nodes) -> Option<Refused>
         ensures { KeepsNames self.old self.new }
     {
-        let (routine, before) = routines.split_routine(self.tree)?;
+        let (_, before) = routines.split_last(self.tree)?;
         let least = self.declare_routines(before);
+        let Some(routine) = routine_below(self.tree, routines.end) else {
+            return least;
+        };
         let slot = routine.slot as usize;
         let declared = self.declare(routine.name, routine.sort(), slot, MOST_SLOTS, routine.at);
         lesser(least, declared.err())

@@ -1,5 +1,5 @@
 ghost use Rattle.std.specs.Prelude.{◌≡◌, ◌+◌, ◌<◌, ◌≤◌};
-ghost use Rattle.translate.specs.Views.{FallsLast, FallsBelow, FallsSplit, FallsExpr, FallsCommand, FallsDatum, FallsRoutine, FallsSplitDatum, FallsSplitRoutine};
+ghost use Rattle.translate.specs.Views.{FallsLast, FallsBelow, FallsSplit, FallsExpr, FallsCommand, FallsDatum, FallsRoutine};
 
 use crate::record::Sort;
 use lang::instruction::{Binding, Instruction};
@@ -348,42 +348,14 @@ impl Routine {
 }
 
 impl Nodes {
-    fn is_empty(self) -> bool {
-        self.start >= self.end
-    }
-
     // The last of them, and those before it.
     pub(crate) fn split_last(self, tree: &Tree) -> Option<(usize, Nodes)>
         ensures { FallsSplit self.end result }
     {
-        if self.is_empty() {
+        if self.start >= self.end {
             return None;
         }
         let (end, n) = last(tree, self.end)?;
         Some((n, Nodes { end, ..self }))
-    }
-
-    // The last of them as a datum, and those before it.
-    pub(crate) fn split_datum(self, tree: &Tree) -> Option<(Datum, Nodes)>
-        ensures { FallsSplitDatum self.end result }
-    {
-        if self.is_empty() {
-            return None;
-        }
-        let datum = datum_below(tree, self.end)?;
-        let end = datum.start;
-        Some((datum, Nodes { end, ..self }))
-    }
-
-    // The last of them as a routine, and those before it.
-    pub(crate) fn split_routine(self, tree: &Tree) -> Option<(Routine, Nodes)>
-        ensures { FallsSplitRoutine self.end result }
-    {
-        if self.is_empty() {
-            return None;
-        }
-        let routine = routine_below(tree, self.end)?;
-        let end = routine.start;
-        Some((routine, Nodes { end, ..self }))
     }
 }

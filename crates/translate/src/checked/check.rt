@@ -5,7 +5,9 @@ ghost use Rattle.translate.specs.Rooms.{KeepsNames, CheckerKeeps};
 use crate::checked::Checked;
 use crate::record::{Record, Sort};
 use crate::scope::{MOST_SLOTS, Outer, Scope};
-use crate::view::{Command, Datum, Expr, Form, Nodes, Routine, command_at, expr_at, last};
+use crate::view::{
+    Command, Expr, Form, Nodes, command_at, datum_below, expr_at, last, routine_below,
+};
 use crate::violation::{Use, lesser};
 use lang::name::Name;
 use lang::refusal::{Refusal, Refused};
@@ -133,8 +135,8 @@ impl Checker<'_, '_, '_, '_, '_> {
         }
     }
 
-    // A list is checked in order and can be stepped through only from its end back. With no heap to turn it round in,
-    // each kind of list is a recursion.
+    // A list is checked in order and can be stepped through only from its end back: with no heap to turn it round in, by
+    // recursion. Each kind of list has its own, since one for all would switch on which step to run.
     #[cycle(expression_checks)]
     fn check_args(&mut self, args: Nodes)
         ensures { CheckerKeeps self.old self.new }
@@ -149,15 +151,19 @@ impl Checker<'_, '_, '_, '_, '_> {
     fn check_data(&mut self, data: Nodes)
         ensures { CheckerKeeps self.old self.new }
     {
-        if let Some((datum, before)) = data.split_datum(self.scope.tree) {
+        if let Some((_, before)) = data.split_last(self.scope.tree) {
             self.check_data(before);
-            self.check_datum(datum);
+            self.check_datum(data.end);
         }
     }
 
-    fn check_datum(&mut self, datum: Datum)
+    // The last datum below a number.
+    fn check_datum(&mut self, end: usize)
         ensures { CheckerKeeps self.old self.new }
     {
+        let Some(datum) = datum_below(self.scope.tree, end) else {
+            return;
+        };
         self.check_expr(datum.value);
         let slot = datum.slot as usize;
         let sort = Sort::from(datum.binding);
@@ -234,17 +240,20 @@ impl Checker<'_, '_, '_, '_, '_> {
     fn check_routines(&mut self, routines: Nodes)
         ensures { CheckerKeeps self.old self.new }
     {
-        if let Some((routine, before)) = routines.split_routine(self.scope.tree) {
+        if let Some((_, before)) = routines.split_last(self.scope.tree) {
             self.check_routines(before);
-            self.check_routine(routine);
+            self.check_routine(routines.end);
         }
     }
 
-    // A routine's parameters and its body.
+    // The parameters and the body of the last routine below a number.
     #[cycle(command_checks)]
-    fn check_routine(&mut self, routine: Routine)
+    fn check_routine(&mut self, end: usize)
         ensures { CheckerKeeps self.old self.new }
     {
+        let Some(routine) = routine_below(self.scope.tree, end) else {
+            return;
+        };
         let Some(outer) = self.enter(routine.place) else {
             return;
         };

@@ -6,7 +6,9 @@ ghost use Rattle.translate.specs.Rooms.{SameRoom, KeepsNames, WriterKeeps};
 use crate::checked::Checked;
 use crate::record::{Record, Sort};
 use crate::scope::{MOST_SLOTS, Scope};
-use crate::view::{Command, Datum, Expr, Form, Nodes, Routine, command_at, expr_at, last};
+use crate::view::{
+    Command, Expr, Form, Nodes, Routine, command_at, datum_below, expr_at, last, routine_below,
+};
 use lang::code::Code;
 use lang::instruction::{Binding, Instruction};
 use lang::narrow::{byte, short};
@@ -154,8 +156,8 @@ impl Writer<'_, '_, '_, '_, '_, '_, '_> {
         }
     }
 
-    // A list is written in order and can be stepped through only from its end back. With no heap to turn it round in,
-    // each kind of list is a recursion.
+    // A list is written in order and can be stepped through only from its end back: with no heap to turn it round in, by
+    // recursion. Each kind of list has its own, since one for all would switch on which step to run.
     #[cycle(expression_code)]
     fn write_args(&mut self, args: Nodes)
         ensures { WriterKeeps self.old self.new }
@@ -170,15 +172,19 @@ impl Writer<'_, '_, '_, '_, '_, '_, '_> {
     fn write_data(&mut self, data: Nodes)
         ensures { WriterKeeps self.old self.new }
     {
-        if let Some((datum, before)) = data.split_datum(self.scope.tree) {
+        if let Some((_, before)) = data.split_last(self.scope.tree) {
             self.write_data(before);
-            self.write_datum(datum);
+            self.write_datum(data.end);
         }
     }
 
-    fn write_datum(&mut self, datum: Datum)
+    // The last datum below a number.
+    fn write_datum(&mut self, end: usize)
         ensures { WriterKeeps self.old self.new }
     {
+        let Some(datum) = datum_below(self.scope.tree, end) else {
+            return;
+        };
         self.write_expr(datum.value);
         let slot = datum.slot as usize;
         self.emit(
@@ -290,16 +296,20 @@ impl Writer<'_, '_, '_, '_, '_, '_, '_> {
     fn write_routines(&mut self, routines: Nodes)
         ensures { WriterKeeps self.old self.new }
     {
-        if let Some((routine, before)) = routines.split_routine(self.scope.tree) {
+        if let Some((_, before)) = routines.split_last(self.scope.tree) {
             self.write_routines(before);
-            self.write_routine(routine);
+            self.write_routine(routines.end);
         }
     }
 
+    // The last routine below a number.
     #[cycle(command_code)]
-    fn write_routine(&mut self, routine: Routine)
+    fn write_routine(&mut self, end: usize)
         ensures { WriterKeeps self.old self.new }
     {
+        let Some(routine) = routine_below(self.scope.tree, end) else {
+            return;
+        };
         let at = self.code.len();
         self.emit(declares(routine, 0), routine.place);
         let outer = self.scope.enter();

@@ -1,4 +1,4 @@
 use Rattle.translate.proofs.lookup.among.Given as goal
 
-abbrev pub decreases-loop-routine : goal.decreases-loop-routine
-decreases-loop-routine l = l.rest.end
+abbrev pub decreases-loop-before : goal.decreases-loop-before
+decreases-loop-before l = l.rest.end
