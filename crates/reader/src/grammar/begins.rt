@@ -3,8 +3,7 @@ ghost use Rattle.reader.specs.Begins.{begins_command, begins_prefix, begins_expr
 
 use lang::word::Kind;
 
-// The lines of the grammar that nest in themselves. Each is entered and left in its own function: one for all three
-// would make the commands and the expressions one cycle of thirty calls.
+// The lines of the grammar that nest in themselves.
 #[derive(Clone, Copy, PartialEq, Eq, Debug)]
 pub enum Line {
     Command,

@@ -13,7 +13,7 @@ impl<'t, 'm> Reader<'t, 'm> {
     pub fn rule(&mut self) -> Result<(), Refused>
         ensures { Grew self.old self.new }
     {
-        self.command()?;
+        self.line(Line::Command)?;
         if self.ended() {
             Ok(())
         } else {
@@ -21,25 +21,37 @@ impl<'t, 'm> Reader<'t, 'm> {
         }
     }
 
-    // command: block | assignment | call | if | while
-    #[cycle(command_lines)]
-    pub fn command(&mut self) -> Result<(), Refused>
+    // One of the three lines that nest.
+    #[cycle(lines)]
+    pub fn line(&mut self, line: Line) -> Result<(), Refused>
         ensures { Gone self.old self.new result }
     {
-        self.enter(Line::Command)?;
-        self.form()?;
+        self.enter(line)?;
+        self.form(line)?;
         self.leave();
         Ok(())
     }
 
-    // What a command is, by its first word.
-    #[cycle(command_lines)]
-    fn form(&mut self) -> Result<(), Refused>
+    // What stands in it.
+    #[cycle(lines)]
+    fn form(&mut self, line: Line) -> Result<(), Refused>
+        ensures { Gone self.old self.new result }
+    {
+        match line {
+            Line::Command => self.command(),
+            Line::Expr => self.expr(),
+            Line::Prefix => self.prefix(),
+        }
+    }
+
+    // command: block | assignment | call | if | while
+    #[cycle(lines)]
+    fn command(&mut self) -> Result<(), Refused>
         ensures { Gone self.old self.new result }
     {
         match self.kind() {
             Some(Kind::OpenBrace) => self.block(),
-            Some(Kind::If) => self.choice(),
+            Some(Kind::If) => self.choice(Label::If, Line::Command),
             Some(Kind::While) => self.repeat(),
             Some(Kind::Call) => self.act(),
             _ => self.assign(),
@@ -47,19 +59,21 @@ impl<'t, 'm> Reader<'t, 'm> {
     }
 
     // name ':=' expr ';'
+    #[cycle(lines)]
     fn assign(&mut self) -> Result<(), Refused>
         ensures { Gone self.old self.new result }
     {
         let start = self.start();
         let name = self.name()?;
         self.expect(Kind::Becomes)?;
-        self.expr()?;
+        self.line(Line::Expr)?;
         self.expect(Kind::Semicolon)?;
         self.end(start, named(Label::Assign, name));
         Ok(())
     }
 
     // 'call' name '(' args ')' ';'
+    #[cycle(lines)]
     fn act(&mut self) -> Result<(), Refused>
         ensures { Gone self.old self.new result }
     {
@@ -70,39 +84,38 @@ impl<'t, 'm> Reader<'t, 'm> {
         self.expect(Kind::Semicolon)
     }
 
-    // 'if' expr 'then' command 'else' command. One line for this and `choose` would be no plainer: it would make the
-    // commands and the expressions one cycle of thirty calls.
-    #[cycle(command_lines)]
-    fn choice(&mut self) -> Result<(), Refused>
+    // 'if' expr 'then' branch 'else' branch, where both branches are commands or both are exprs
+    #[cycle(lines)]
+    pub fn choice(&mut self, label: Label, branch: Line) -> Result<(), Refused>
         ensures { Gone self.old self.new result }
     {
         let start = self.start();
         self.expect(Kind::If)?;
-        self.expr()?;
+        self.line(Line::Expr)?;
         self.expect(Kind::Then)?;
-        self.command()?;
+        self.line(branch)?;
         self.expect(Kind::Else)?;
-        self.command()?;
-        self.end(start, plain(Label::If));
+        self.line(branch)?;
+        self.end(start, plain(label));
         Ok(())
     }
 
     // 'while' expr 'do' command
-    #[cycle(command_lines)]
+    #[cycle(lines)]
     fn repeat(&mut self) -> Result<(), Refused>
         ensures { Gone self.old self.new result }
     {
         let start = self.start();
         self.expect(Kind::While)?;
-        self.expr()?;
+        self.line(Line::Expr)?;
         self.expect(Kind::Do)?;
-        self.command()?;
+        self.line(Line::Command)?;
         self.end(start, plain(Label::While));
         Ok(())
     }
 
     // block: '{' datum.. routine.. command.. '}'
-    #[cycle(command_lines)]
+    #[cycle(lines)]
     fn block(&mut self) -> Result<(), Refused>
         ensures { Gone self.old self.new result }
     {
@@ -127,7 +140,7 @@ impl<'t, 'm> Reader<'t, 'm> {
     }
 
     // routine..: how many slots there are with these.
-    #[cycle(command_lines)]
+    #[cycle(lines)]
     fn routines(&mut self, data: u16) -> Result<u16, Refused>
         ensures { Lists self.old self.new result }
     {
@@ -149,7 +162,7 @@ impl<'t, 'm> Reader<'t, 'm> {
     }
 
     // routine: 'fun' name '(' names ')' '=' expr ';' | 'proc' name '(' names ')' command
-    #[cycle(command_lines)]
+    #[cycle(lines)]
     fn routine(&mut self, label: Label, slot: u16) -> Result<(), Refused>
         ensures { Gone self.old self.new result }
     {
@@ -163,23 +176,23 @@ impl<'t, 'm> Reader<'t, 'm> {
     }
 
     // What a routine does.
-    #[cycle(command_lines)]
+    #[cycle(lines)]
     fn body(&mut self, label: Label) -> Result<(), Refused>
         ensures { Gone self.old self.new result }
     {
         match label {
             Label::Fun => self.answer(),
-            _ => self.command(),
+            _ => self.line(Line::Command),
         }
     }
 
     // command..
-    #[cycle(command_lines)]
+    #[cycle(lines)]
     fn commands(&mut self) -> Result<(), Refused>
         ensures { Lists self.old self.new result }
     {
         while self.begins(Line::Command) {
-            self.command()?;
+            self.line(Line::Command)?;
         }
         Ok(())
     }

@@ -2,6 +2,7 @@ ghost use Rattle.std.specs.Prelude.{◌≡◌, OnOk};
 ghost use Rattle.reader.specs.Looking.{Gone, Lists, Took, Went};
 
 use crate::grammar::Reader;
+use crate::grammar::begins::Line;
 use crate::grammar::build::{Params, named};
 use crate::node::{Info, Label};
 use lang::refusal::Refused;
@@ -9,6 +10,7 @@ use lang::word::Kind;
 
 impl<'t, 'm> Reader<'t, 'm> {
     // datum..: how many there are.
+    #[cycle(lines)]
     pub fn data(&mut self) -> Result<u16, Refused>
         ensures { Lists self.old self.new result }
     {
@@ -30,6 +32,7 @@ impl<'t, 'm> Reader<'t, 'm> {
     }
 
     // datum: ('const' | 'var') name '=' expr ';'
+    #[cycle(lines)]
     fn datum(&mut self, label: Label, slot: u16) -> Result<(), Refused>
         ensures { Gone self.old self.new result }
     {
@@ -73,11 +76,12 @@ impl<'t, 'm> Reader<'t, 'm> {
     }
 
     // '=' expr ';', what a datum holds or a function answers.
+    #[cycle(lines)]
     pub fn answer(&mut self) -> Result<(), Refused>
         ensures { Gone self.old self.new result }
     {
         self.expect(Kind::Equal)?;
-        self.expr()?;
+        self.line(Line::Expr)?;
         self.expect(Kind::Semicolon)
     }
 }

@@ -12,46 +12,19 @@ use lang::word::Kind;
 
 impl<'t, 'm> Reader<'t, 'm> {
     // expr: 'if' expr 'then' expr 'else' expr | 'let' name '=' expr 'in' expr | either
-    #[cycle(expression_lines)]
+    #[cycle(lines)]
     pub fn expr(&mut self) -> Result<(), Refused>
         ensures { Gone self.old self.new result }
     {
-        self.enter(Line::Expr)?;
-        self.whole()?;
-        self.leave();
-        Ok(())
-    }
-
-    // What an expression is, by its first word.
-    #[cycle(expression_lines)]
-    fn whole(&mut self) -> Result<(), Refused>
-        ensures { Gone self.old self.new result }
-    {
         match self.kind() {
-            Some(Kind::If) => self.choose(),
+            Some(Kind::If) => self.choice(Label::Choose, Line::Expr),
             Some(Kind::Let) => self.bind(),
             _ => self.grouped(Level::Or),
         }
     }
 
-    // 'if' expr 'then' expr 'else' expr
-    #[cycle(expression_lines)]
-    fn choose(&mut self) -> Result<(), Refused>
-        ensures { Gone self.old self.new result }
-    {
-        let start = self.start();
-        self.expect(Kind::If)?;
-        self.expr()?;
-        self.expect(Kind::Then)?;
-        self.expr()?;
-        self.expect(Kind::Else)?;
-        self.expr()?;
-        self.end(start, plain(Label::Choose));
-        Ok(())
-    }
-
     // 'let' name '=' expr 'in' expr
-    #[cycle(expression_lines)]
+    #[cycle(lines)]
     fn bind(&mut self) -> Result<(), Refused>
         ensures { Gone self.old self.new result }
     {
@@ -59,27 +32,16 @@ impl<'t, 'm> Reader<'t, 'm> {
         self.expect(Kind::Let)?;
         let name = self.name()?;
         self.expect(Kind::Equal)?;
-        self.expr()?;
+        self.line(Line::Expr)?;
         self.expect(Kind::In)?;
-        self.expr()?;
+        self.line(Line::Expr)?;
         self.end(start, named(Label::Let, name));
         Ok(())
     }
 
     // prefix: '-' prefix | 'not' prefix | atom
-    #[cycle(expression_lines)]
+    #[cycle(lines)]
     pub fn prefix(&mut self) -> Result<(), Refused>
-        ensures { Gone self.old self.new result }
-    {
-        self.enter(Line::Prefix)?;
-        self.signed()?;
-        self.leave();
-        Ok(())
-    }
-
-    // What a prefix is, by its first word.
-    #[cycle(expression_lines)]
-    fn signed(&mut self) -> Result<(), Refused>
         ensures { Gone self.old self.new result }
     {
         match self.kind() {
@@ -90,19 +52,19 @@ impl<'t, 'm> Reader<'t, 'm> {
     }
 
     // A sign and what it stands before.
-    #[cycle(expression_lines)]
+    #[cycle(lines)]
     fn unary(&mut self, label: Label) -> Result<(), Refused>
         ensures { Gone self.old self.new result }
     {
         let start = self.start();
         self.advance()?;
-        self.prefix()?;
+        self.line(Line::Prefix)?;
         self.end(start, plain(label));
         Ok(())
     }
 
     // atom: number | 'true' | 'false' | name | name '(' args ')' | '(' expr ')'
-    #[cycle(expression_lines)]
+    #[cycle(lines)]
     fn atom(&mut self) -> Result<(), Refused>
         ensures { Gone self.old self.new result }
     {
@@ -138,17 +100,17 @@ impl<'t, 'm> Reader<'t, 'm> {
     }
 
     // '(' expr ')'
-    #[cycle(expression_lines)]
+    #[cycle(lines)]
     fn brackets(&mut self) -> Result<(), Refused>
         ensures { Gone self.old self.new result }
     {
         self.expect(Kind::Open)?;
-        self.expr()?;
+        self.line(Line::Expr)?;
         self.expect(Kind::Close)
     }
 
     // name | name '(' args ')'
-    #[cycle(expression_lines)]
+    #[cycle(lines)]
     fn named_atom(&mut self) -> Result<(), Refused>
         ensures { Gone self.old self.new result }
     {
@@ -162,7 +124,7 @@ impl<'t, 'm> Reader<'t, 'm> {
     }
 
     // '(' args ')' of a name that is called
-    #[cycle(expression_lines)]
+    #[cycle(lines)]
     pub fn call(&mut self, label: Label, name: Param, start: Start) -> Result<(), Refused>
         ensures { Gone self.old self.new result }
     {
@@ -179,18 +141,18 @@ impl<'t, 'm> Reader<'t, 'm> {
 
     // A comma list of expressions, up to its ')'; how many there are. One list for this and `names` would be no
     // plainer: it would pass a closure through the cycle of lines.
-    #[cycle(expression_lines)]
+    #[cycle(lines)]
     fn args(&mut self) -> Result<u16, Refused>
         ensures { Lists self.old self.new result }
     {
         if self.next_is(Kind::Close) {
             return Ok(0);
         }
-        self.expr()?;
+        self.line(Line::Expr)?;
         let mut count: u16 = 1;
         while self.next_is(Kind::Comma) {
             self.advance()?;
-            self.expr()?;
+            self.line(Line::Expr)?;
             count = count.saturating_add(1);
         }
         Ok(count)

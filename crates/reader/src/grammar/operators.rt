@@ -2,6 +2,7 @@ ghost use Rattle.std.specs.Prelude.{◌≡◌};
 ghost use Rattle.reader.specs.Looking.{Gone};
 
 use crate::grammar::Reader;
+use crate::grammar::begins::Line;
 use crate::grammar::build::{Start, plain};
 use crate::node::Label;
 use lang::refusal::Refused;
@@ -22,7 +23,7 @@ impl<'t, 'm> Reader<'t, 'm> {
     // both: test ('and' test)..
     // sum: product (('+' | '-') product)..
     // product: prefix ('*' prefix)..
-    #[cycle(expression_lines)]
+    #[cycle(lines)]
     pub fn grouped(&mut self, level: Level) -> Result<(), Refused>
         ensures { Gone self.old self.new result }
     {
@@ -37,7 +38,7 @@ impl<'t, 'm> Reader<'t, 'm> {
     }
 
     // What stands on each side of an operator.
-    #[cycle(expression_lines)]
+    #[cycle(lines)]
     fn side(&mut self, level: Level) -> Result<(), Refused>
         ensures { Gone self.old self.new result }
     {
@@ -45,7 +46,7 @@ impl<'t, 'm> Reader<'t, 'm> {
             Level::Or => self.grouped(Level::And),
             Level::And => self.test(),
             Level::Term => self.grouped(Level::Factor),
-            Level::Factor => self.prefix(),
+            Level::Factor => self.line(Line::Prefix),
         }
     }
 
@@ -62,7 +63,7 @@ impl<'t, 'm> Reader<'t, 'm> {
     }
 
     // test: sum | sum '=' sum | sum '<' sum
-    #[cycle(expression_lines)]
+    #[cycle(lines)]
     fn test(&mut self) -> Result<(), Refused>
         ensures { Gone self.old self.new result }
     {
@@ -76,7 +77,7 @@ impl<'t, 'm> Reader<'t, 'm> {
     }
 
     // The sign of a comparison and its right side.
-    #[cycle(expression_lines)]
+    #[cycle(lines)]
     fn compared(&mut self, label: Label, start: Start) -> Result<(), Refused>
         ensures { Gone self.old self.new result }
     {
