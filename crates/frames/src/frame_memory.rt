@@ -20,7 +20,7 @@ pub struct FrameMemory<'m, L: Links<'m>> {
 }
 
 impl<'m, L: Links<'m>> FrameMemory<'m, L> {
-    // No frame yet, in what is lent; 1 where that is too short.
+    // No frame yet, in what is lent, each part apart; 1 where one is too short.
     pub fn over(
         links: &'m mut [u16],
         starts: &'m mut [u16],

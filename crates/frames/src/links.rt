@@ -11,7 +11,7 @@ pub trait Links<'m>: Sized + Drop {
     // What else is kept of a frame is right.
     ghost right: { Self → ℕ → Type 0 };
 
-    // How many numbers have to be lent.
+    // How many numbers have to be lent. No constant, which got no clause in an impl with a lifetime.
     fn needed() -> usize
         ensures { result ≡ needed };
 
@@ -31,7 +31,7 @@ pub trait Links<'m>: Sized + Drop {
         ensures linked { Linked (up self.old) (right self.old) at → Within parent at → hop (up self.old) 15 parent ≡ None → Linked (up self.new) (right self.new) (at + 1) };
 }
 
-// A link as it lies in memory, read as a frame: 0 is none, else the frame's number plus one.
+// A link as it lies in lent memory, a number of 16 bits, read as a frame: 0 is none, else the frame's number plus one.
 pub(crate) fn decoded(link: u16) -> Option<usize>
     ensures { result ≡ before link }
 {

@@ -3,15 +3,15 @@ ghost use Rattle.lang.specs.Faults.{number};
 
 use std::fmt;
 
-// Why a run ends early. `number` of specs/Faults.antt gives each case its number.
+// Why a run ends early, each with its number. `number` of specs/Faults.antt says the same.
 #[derive(Clone, Copy, PartialEq, Eq, Debug)]
 pub enum Fault {
-    Kind,
-    Range,
-    Frames,
-    Slots,
-    Values,
-    Steps,
+    Kind = 21,
+    Range = 22,
+    Frames = 23,
+    Slots = 24,
+    Values = 25,
+    Steps = 26,
 }
 
 // The fault's number.
@@ -19,14 +19,7 @@ impl From<Fault> for u8 {
     ghost from_gives = { λ fault n. n ≡ number fault };
 
     fn from(fault: Fault) -> u8 {
-        match fault {
-            Fault::Kind => 21,
-            Fault::Range => 22,
-            Fault::Frames => 23,
-            Fault::Slots => 24,
-            Fault::Values => 25,
-            Fault::Steps => 26,
-        }
+        fault as u8
     }
 }
 

@@ -3,32 +3,32 @@ ghost use Rattle.lang.specs.Refusals.{number};
 
 use std::fmt;
 
-// Why a call is turned away, in the order of the numbers. `number` of specs/Refusals.antt gives each case its number.
+// Why a call is turned away, each with its number, in their order. `number` of specs/Refusals.antt says the same.
 #[derive(Clone, Copy, PartialEq, Eq, PartialOrd, Ord, Debug)]
 pub enum Refusal {
-    ShortMemory,
-    BadSheet,
-    TextTooLong,
-    BadByte,
-    NameTooLong,
-    NumberTooLarge,
-    Unexpected,
-    NestTooDeep,
-    TooManyNodes,
-    NotVisible,
-    NameTwice,
-    WrongSort,
-    WrongCount,
-    ScopesTooDeep,
-    TooManyNames,
-    RunOpen,
-    NoRule,
-    NoRun,
-    BadEntry,
-    TooManyFrames,
-    TooManySlots,
-    ChainTooDeep,
-    NoSuchSlot,
+    ShortMemory = 1,
+    BadSheet = 2,
+    TextTooLong = 3,
+    BadByte = 4,
+    NameTooLong = 5,
+    NumberTooLarge = 6,
+    Unexpected = 7,
+    NestTooDeep = 8,
+    TooManyNodes = 9,
+    NotVisible = 10,
+    NameTwice = 11,
+    WrongSort = 12,
+    WrongCount = 13,
+    ScopesTooDeep = 14,
+    TooManyNames = 15,
+    RunOpen = 16,
+    NoRule = 17,
+    NoRun = 18,
+    BadEntry = 19,
+    TooManyFrames = 23,
+    TooManySlots = 24,
+    ChainTooDeep = 27,
+    NoSuchSlot = 28,
 }
 
 impl Refusal {
@@ -45,31 +45,7 @@ impl From<Refusal> for u8 {
     ghost from_gives = { λ why n. n ≡ number why };
 
     fn from(why: Refusal) -> u8 {
-        match why {
-            Refusal::ShortMemory => 1,
-            Refusal::BadSheet => 2,
-            Refusal::TextTooLong => 3,
-            Refusal::BadByte => 4,
-            Refusal::NameTooLong => 5,
-            Refusal::NumberTooLarge => 6,
-            Refusal::Unexpected => 7,
-            Refusal::NestTooDeep => 8,
-            Refusal::TooManyNodes => 9,
-            Refusal::NotVisible => 10,
-            Refusal::NameTwice => 11,
-            Refusal::WrongSort => 12,
-            Refusal::WrongCount => 13,
-            Refusal::ScopesTooDeep => 14,
-            Refusal::TooManyNames => 15,
-            Refusal::RunOpen => 16,
-            Refusal::NoRule => 17,
-            Refusal::NoRun => 18,
-            Refusal::BadEntry => 19,
-            Refusal::TooManyFrames => 23,
-            Refusal::TooManySlots => 24,
-            Refusal::ChainTooDeep => 27,
-            Refusal::NoSuchSlot => 28,
-        }
+        why as u8
     }
 }
 

@@ -112,6 +112,7 @@ impl<'m, T: Copy> Stack<'m, T> {
         ensures { (held self.new ≡ []) × (items self.new ≡ []) × (self.new.cells.now ≡ replicate (length self.old.cells.now) x) }
     {
         self.used = 0;
+        // no `fill`, which asks of `T` that cloning cannot fail: a `Copy` of any kind does not say that
         for cell in self.cells.iter_mut() {
             *cell = x;
         }

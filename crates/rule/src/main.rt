@@ -21,8 +21,8 @@ fn run(rt: &HostRuntime) -> anyhow::Result<()> {
     let heap = rt.alloc();
     let text = read_text(rt)?;
     let mut sheet = example_sheet().map_err(|_| anyhow!("the sheet is refused"))?;
-    let judged = judge_over_chain(heap, &text, &mut sheet);
-    let lines = report(heap, judged, &sheet).map_err(|_| anyhow!("no memory"))?;
+    let judged = judge_over_chain(heap, &text, &mut sheet).map_err(|_| anyhow!("no memory"))?;
+    let lines = report(heap, judged, &sheet)?;
     print!(rt; "{}", lines.as_str())?;
     Ok(())
 }

@@ -5,10 +5,12 @@ use frames::display::Display;
 use frames::memory::BuildFrames;
 use lang::code::MOST_CODE;
 use lang::instruction::Instruction;
+use lang::refusal::Refused;
 use lang::sheet::Sheet;
 use lang::value::{Slot, Value};
 use machine::outcome::Ran;
 use reader::node::{BLANK, Node};
+use reader::tree::MOST_NODES;
 use std::alloc::{AllocError, Global};
 use translate::record::{NO_RECORD, Record};
 
@@ -27,7 +29,7 @@ impl Owned {
     // Enough of each kind.
     pub(crate) fn new(heap: Global) -> Result<Owned, AllocError> {
         Ok(Owned {
-            nodes: vec![in heap; BLANK; 4096]?,
+            nodes: vec![in heap; BLANK; MOST_NODES]?,
             names: vec![in heap; NO_RECORD; MOST_NAMES]?,
             instructions: vec![in heap; Instruction::Back; MOST_CODE]?,
             places: vec![in heap; 0u16; MOST_CODE]?,
@@ -74,21 +76,29 @@ fn judge_over<F: BuildFrames + Drop>(
     text: &[u8],
     sheet: &mut Sheet,
     frames: F,
-) -> Result<Ran, Unjudged> {
+) -> Result<Result<Ran, Refused>, Unjudged> {
     let mut owned = Owned::new(heap)?;
-    judge(text, sheet, owned.lend(), frames)
+    Ok(judge(text, sheet, owned.lend(), frames)?)
 }
 
 // Judges a rule over a static chain. This and the next differ in a type: a generic function would have to name the
 // trait of the links, which `frames` does not hand out.
-pub fn judge_over_chain(heap: Global, text: &[u8], sheet: &mut Sheet) -> Result<Ran, Unjudged> {
+pub fn judge_over_chain(
+    heap: Global,
+    text: &[u8],
+    sheet: &mut Sheet,
+) -> Result<Result<Ran, Refused>, Unjudged> {
     let mut owned = OwnedFrames::new(heap, 256)?;
     let chain = Chain::over(&mut owned.links, &mut owned.starts, &mut owned.slots)?;
     judge_over(heap, text, sheet, chain)
 }
 
 // Judges a rule over a display.
-pub fn judge_over_display(heap: Global, text: &[u8], sheet: &mut Sheet) -> Result<Ran, Unjudged> {
+pub fn judge_over_display(
+    heap: Global,
+    text: &[u8],
+    sheet: &mut Sheet,
+) -> Result<Result<Ran, Refused>, Unjudged> {
     let mut owned = OwnedFrames::new(heap, 4096)?;
     let display = Display::over(&mut owned.links, &mut owned.starts, &mut owned.slots)?;
     judge_over(heap, text, sheet, display)

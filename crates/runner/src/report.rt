@@ -1,10 +1,9 @@
-use crate::unjudged::Unjudged;
 use lang::refusal::Refused;
 use lang::sheet::Sheet;
 use machine::outcome::Ran;
 use std::alloc::{AllocError, Global};
 
-// The line of a refused text.
+// The line of a refused text, here and in a listing.
 pub fn refusal_line(heap: Global, refused: Refused) -> Result<String, AllocError> {
     format!(in heap; "{refused}\n")
 }
@@ -21,12 +20,11 @@ fn run_lines(heap: Global, ran: Ran, sheet: &Sheet) -> Result<String, AllocError
 // The lines that report a judged rule over the sheet as it stands then.
 pub fn report(
     heap: Global,
-    judged: Result<Ran, Unjudged>,
+    judged: Result<Ran, Refused>,
     sheet: &Sheet,
-) -> Result<String, Unjudged> {
+) -> Result<String, AllocError> {
     match judged {
-        Ok(ran) => Ok(run_lines(heap, ran, sheet)?),
-        Err(Unjudged::Text(refused)) => Ok(refusal_line(heap, refused)?),
-        Err(why) => Err(why),
+        Ok(ran) => run_lines(heap, ran, sheet),
+        Err(refused) => refusal_line(heap, refused),
     }
 }

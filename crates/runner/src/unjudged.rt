@@ -1,23 +1,14 @@
 ghost use Rattle.std.specs.Prelude.{◌≡◌};
 ghost use Rattle.runner.specs.declared.unjudged.Unjudged.TheVariants as unjudged;
 
-use lang::refusal::{Refusal, Refused};
+use lang::refusal::Refusal;
 use std::alloc::AllocError;
 
-// Why a rule did not run: its text is refused, what was handed over is too short, or no memory was to be had.
+// Why a rule could not be judged at all: what was handed over is too short, or no memory was to be had.
 #[derive(Clone, Copy, PartialEq, Eq, Debug)]
 pub enum Unjudged {
-    Text(Refused),
     Short(Refusal),
     NoMemory,
-}
-
-impl From<Refused> for Unjudged {
-    ghost from_gives = { λ refused why. why ≡ unjudged.Text refused };
-
-    fn from(refused: Refused) -> Unjudged {
-        Unjudged::Text(refused)
-    }
 }
 
 impl From<Refusal> for Unjudged {

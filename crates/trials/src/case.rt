@@ -1,7 +1,7 @@
 use std::alloc::{AllocError, Global};
 
 // A text in parts, two of them repeated, and the lines that report what becomes of it.
-// In a repeated part `#` stands for the count of the turns before.
+// In a repeated part `#` stands for the count of the turns before. One row of a table, so its parts have no type of their own.
 pub struct Case {
     pub front: &'static str,
     pub unit: &'static str,

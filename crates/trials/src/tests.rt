@@ -1,5 +1,6 @@
 use crate::case::Case;
 use crate::{examples, faults, grammar, names, words};
+use lang::refusal::Refused;
 use lang::sheet::Sheet;
 use machine::outcome::Ran;
 use runner::example::example_sheet;
@@ -11,7 +12,7 @@ use std::alloc::Global;
 use std::test::Fail;
 
 // The report of a text, over the frame memory that `judge` takes.
-fn report_by<J: FnOnce(Global, &[u8], &mut Sheet) -> Result<Ran, Unjudged>>(
+fn report_by<J: FnOnce(Global, &[u8], &mut Sheet) -> Result<Result<Ran, Refused>, Unjudged>>(
     heap: Global,
     text: &[u8],
     judge: J,
@@ -19,7 +20,7 @@ fn report_by<J: FnOnce(Global, &[u8], &mut Sheet) -> Result<Ran, Unjudged>>(
     requires { J.IsAlwaysCallable judge }
 {
     let mut sheet = example_sheet()?;
-    let judged = judge(heap, text, &mut sheet);
+    let judged = judge(heap, text, &mut sheet)?;
     Ok(report(heap, judged, &sheet)?)
 }
 

@@ -10,6 +10,7 @@ use crate::sheet::{Described, Entry, Mark};
 use crate::value::Value;
 use crate::word::{Class, Kind};
 
+// Whether a byte is a letter: one line, like `in_name`.
 fn is_letter(b: u8) -> bool
     ensures { result ≡ letter b }
 {
