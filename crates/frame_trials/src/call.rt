@@ -36,10 +36,7 @@ pub fn answered<T: Drop, E: Into<u8> + Drop, F: FnOnce(T) -> Answer + Drop>(
 ) -> Answer
     requires { F.IsAlwaysCallable holds }
 {
-    match res {
-        Ok(value) => holds(value),
-        Err(why) => Answer::Refused(why.into()),
-    }
+    res.map_or_else(|why| Answer::Refused(why.into()), holds)
 }
 
 // A frame memory on trial.

@@ -1,6 +1,6 @@
 use crate::call::{Answer, Answers, Call, answered};
 use lang::value::Slot;
-use std::alloc::Global;
+use std::alloc::{AllocError, AllocFailed, Global};
 
 #[derive(Drop)]
 struct Frame {
@@ -8,7 +8,36 @@ struct Frame {
     parent: Option<usize>,
 }
 
-// A plain frame memory on the heap, oldest frame first. Refusals are bare numbers, so that nothing of the engine's is in it.
+// Why the model turns a call away; 0 is no refusal's number. The model has nothing of the engine's in it, so this is
+// no `Refusal`.
+#[derive(Clone, Copy, PartialEq, Eq, Debug)]
+pub enum Lack {
+    Memory = 0,
+    Frames = 23,
+    Slots = 24,
+    Chain = 27,
+    Place = 28,
+}
+
+impl From<Lack> for u8 {
+    fn from(lack: Lack) -> u8 {
+        lack as u8
+    }
+}
+
+impl From<AllocError> for Lack {
+    fn from(_e: AllocError) -> Lack {
+        Lack::Memory
+    }
+}
+
+impl<T: Drop> From<AllocFailed<T>> for Lack {
+    fn from(_e: AllocFailed<T>) -> Lack {
+        Lack::Memory
+    }
+}
+
+// A plain frame memory on the heap, oldest frame first.
 #[derive(Drop)]
 pub struct Model {
     heap: Global,
@@ -55,10 +84,10 @@ impl Model {
         depth
     }
 
-    pub fn get(&self, hops: usize, offset: usize) -> Result<Slot, u8> {
-        let number = self.out(hops).ok_or(28u8)?;
-        let frame = self.frames.get(number).ok_or(28u8)?;
-        frame.slots.get(offset).copied().ok_or(28u8)
+    pub fn get(&self, hops: usize, offset: usize) -> Result<Slot, Lack> {
+        let number = self.out(hops).ok_or(Lack::Place)?;
+        let frame = self.frames.get(number).ok_or(Lack::Place)?;
+        frame.slots.get(offset).copied().ok_or(Lack::Place)
     }
 
     pub fn frame_count(&self) -> usize {
@@ -72,9 +101,9 @@ impl Model {
         )
     }
 
-    pub fn slots_out(&self, hops: usize) -> Result<usize, u8> {
-        let number = self.out(hops).ok_or(28u8)?;
-        let frame = self.frames.get(number).ok_or(28u8)?;
+    pub fn slots_out(&self, hops: usize) -> Result<usize, Lack> {
+        let number = self.out(hops).ok_or(Lack::Place)?;
+        let frame = self.frames.get(number).ok_or(Lack::Place)?;
         Ok(frame.slots.len())
     }
 
@@ -82,48 +111,47 @@ impl Model {
         self.frames.clear();
     }
 
-    // The refusal of n more slots in one more frame of this parent.
-    fn refusal(&self, parent: Option<usize>, n: usize) -> Option<u8> {
+    // Whether n more slots in one more frame of this parent are too many.
+    fn check(&self, parent: Option<usize>, n: usize) -> Result<(), Lack> {
         if self.frames.len() >= 256 {
-            return Some(23);
+            return Err(Lack::Frames);
         }
         if self.slot_count().saturating_add(n) > 2048 {
-            return Some(24);
+            return Err(Lack::Slots);
         }
-        match parent {
-            Some(number) if self.depth(number) >= 16 => Some(27),
-            _ => None,
+        if parent.is_some_and(|number| self.depth(number) >= 16) {
+            return Err(Lack::Chain);
         }
+        Ok(())
     }
 
-    // One more frame. 0, the number of no refusal, where the heap has no room.
-    fn add(&mut self, parent: Option<usize>, n: usize) -> Result<(), u8> {
-        if let Some(number) = self.refusal(parent, n) {
-            return Err(number);
-        }
+    // One more frame.
+    fn add(&mut self, parent: Option<usize>, n: usize) -> Result<(), Lack> {
+        self.check(parent, n)?;
         let heap = self.heap;
-        let slots = vec![in heap; Slot::Unset; n].map_err(|_| 0u8)?;
-        self.frames.push(Frame { slots, parent }).map_err(|_| 0u8)
+        let slots = vec![in heap; Slot::Unset; n]?;
+        self.frames.push(Frame { slots, parent })?;
+        Ok(())
     }
 
-    pub fn open(&mut self, n: usize) -> Result<(), u8> {
+    pub fn open(&mut self, n: usize) -> Result<(), Lack> {
         let parent = self.last();
         self.add(parent, n)
     }
 
-    pub fn enter(&mut self, hops: usize, n: usize) -> Result<(), u8> {
-        let parent = self.out(hops).ok_or(28u8)?;
+    pub fn enter(&mut self, hops: usize, n: usize) -> Result<(), Lack> {
+        let parent = self.out(hops).ok_or(Lack::Place)?;
         self.add(Some(parent), n)
     }
 
-    pub fn leave(&mut self) -> Result<(), u8> {
-        self.frames.pop().map(|_| ()).ok_or(28u8)
+    pub fn leave(&mut self) -> Result<(), Lack> {
+        self.frames.pop().map(|_| ()).ok_or(Lack::Place)
     }
 
-    pub fn put(&mut self, hops: usize, offset: usize, slot: Slot) -> Result<(), u8> {
-        let number = self.out(hops).ok_or(28u8)?;
-        let frame = self.frames.get_mut(number).ok_or(28u8)?;
-        let place = frame.slots.get_mut(offset).ok_or(28u8)?;
+    pub fn put(&mut self, hops: usize, offset: usize, slot: Slot) -> Result<(), Lack> {
+        let number = self.out(hops).ok_or(Lack::Place)?;
+        let frame = self.frames.get_mut(number).ok_or(Lack::Place)?;
+        let place = frame.slots.get_mut(offset).ok_or(Lack::Place)?;
         *place = slot;
         Ok(())
     }

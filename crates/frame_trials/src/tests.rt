@@ -76,10 +76,7 @@ impl Lent {
 
 // The number that something is refused with, or 0.
 fn number<T: Drop>(made: Result<T, Refusal>) -> u8 {
-    match made {
-        Ok(_) => 0,
-        Err(why) => why.into(),
-    }
+    made.err().map_or(0, u8::from)
 }
 
 // What can be seen from the last frame: the counts, and all slots of each frame up to 17 hops out
@@ -310,10 +307,10 @@ impl<'c, 'd> Trio<'c, 'd> {
     fn follow(&mut self, steps: &[Step], seed: Option<u64>) -> Result<(), Fail> {
         self.steps(steps)?;
         self.unwind()?;
-        match seed {
-            Some(seed) => self.mixtures(&mut Counter(seed)),
-            None => Ok(()),
+        if let Some(seed) = seed {
+            self.mixtures(&mut Counter(seed))?;
         }
+        Ok(())
     }
 }
 
