@@ -1,4 +1,6 @@
-ghost use Rattle.std.specs.Prelude.{◌<◌};
+ghost use Rattle.std.specs.Prelude.{◌<◌, ◌≤◌};
+ghost use Rattle.lang.specs.Stacks.{room};
+ghost use Rattle.meaning.specs.Limits.{most_values, most_returns};
 
 use frames::memory::BuildFrames;
 use lang::stack::Stack;
@@ -19,6 +21,8 @@ pub struct Machine<'m, F: BuildFrames + Drop> {
     frames: F,
     at: usize,
     steps: u32,
+    ghost value_room: { most_values ≤ room values },
+    ghost return_room: { most_returns ≤ room returns },
 }
 
 // The position of the instruction that is being done. The one after it is a position of 16 bits too.
@@ -33,12 +37,13 @@ pub mod slots;
 pub mod values;
 
 impl Position {
-    ghost use Rattle.std.specs.Prelude.{◌≡◌, ◌+◌, ◌-◌, ◌≤◌, MatchOption};
+    ghost use Rattle.std.specs.Prelude.{◌≡◌, ◌+◌, ◌-◌, MatchOption};
 
     // None from 65,535 on.
     fn new(at: usize) -> Option<Position>
         ensures { MatchOption result (65535 ≤ at) (λ position. position.at ≡ at) }
     {
+        // an `if`, since in a closure the cast would lack the test's fact
         if at < 65535 {
             Some(Position { at: at as u16 })
         } else {

@@ -7,7 +7,7 @@ ghost use Rattle.meaning.specs.Operators.{ranged as ranged_in, with_sign, worked
 use lang::fault::Fault;
 use lang::value::Value;
 
-// The number that an operand has to be.
+// The number that an operand has to be. A trait for this and `truth` would be longer than both, with its law for each.
 fn number(v: Value) -> Result<i32, Fault>
     ensures { MatchResult result (λ z. v ≡ Number z) (λ e. (e ≡ Kind) × (b : Bool) × (v ≡ Truth b)) }
 {
@@ -36,6 +36,8 @@ fn ranged(z: i64) -> Result<Value, Fault>
         .map_err(|_| Fault::Range)
 }
 
+// Functions of their own, since inside `subtracted` and `multiplied` the proof that 64 bits hold the result did not close.
+
 fn sum(a: i32, b: i32) -> i64
     ensures { result ≡ a +ℤ b }
 {
@@ -54,6 +56,9 @@ fn product(a: i32, b: i32) -> i64
     a as i64 * b as i64
 }
 
+// Each operator is two lines. One function that takes the operation would state its clause by the closure's, and be no
+// plainer.
+
 pub fn opposite(v: Value) -> Result<Value, Fault>
     ensures { result ≡ with_sign minus v }
 {
@@ -67,9 +72,6 @@ pub fn negated(v: Value) -> Result<Value, Fault>
     let b = truth(v)?;
     Ok(Value::Truth(!b))
 }
-
-// Each operator is two lines. One function that takes the operation would state its clause by the closure's, and be no
-// plainer.
 
 pub fn added(p: Value, q: Value) -> Result<Value, Fault>
     ensures { result ≡ worked add p q }

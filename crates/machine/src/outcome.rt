@@ -12,7 +12,7 @@ pub enum Halt {
 }
 
 // How one step ends: on, at the code's end, or by a fault at the place of its instruction.
-// No step of checked code is `Stuck`.
+// No step of checked code is `Stuck`. Four ways: as a `Result` of a `Result` it would be no plainer.
 #[derive(Clone, Copy, PartialEq, Eq, Debug)]
 pub enum Step {
     On,
@@ -21,7 +21,7 @@ pub enum Step {
     Stuck,
 }
 
-// How a run with a budget ends. No run of checked code is `Stuck`.
+// How a run with a budget ends. No run of checked code is `Stuck`. Four ways, as `Step`.
 #[derive(Clone, Copy, PartialEq, Eq, Debug)]
 pub enum Outcome {
     Paused,

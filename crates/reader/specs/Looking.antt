@@ -1,5 +1,5 @@
 -- The reader of the grammar: what is left to read, and what a line leaves as it was.
-use Rattle.std.specs.Prelude.{◌≡◌, ℕ, ◌+◌, ◌-◌, ◌<◌, ◌≤◌, max, Bool, true, false, cond, length, Some, None, Ok, Err, OnOk, Option, Result}
+use Rattle.std.specs.Prelude.{◌≡◌, ℕ, ◌+◌, ◌-◌, ◌<◌, ◌≤◌, Bool, true, false, cond, length, Some, None, Ok, Err, OnOk, Option, Result}
 use Rattle.lang.specs.declared.word.Kind.{Kind}
 use Rattle.lang.specs.Kinds.{same_kind}
 use Rattle.lang.specs.declared.refusal.Refusal.TheVariants.{Unexpected, NestTooDeep}
@@ -41,10 +41,9 @@ left w (Some x) = length w.rest.now + 1
 abbrev pub unread : Reader → ℕ
 unread r = left r.words r.word
 
--- the table keeps its room, and counts no further than 4,097
-pub record Kept (t u : Tree) : Type 0 where
-  pub room : node_room u ≡ node_room t
-  pub few : u.used ≤ max t.used 4097
+-- the table keeps its room
+abbrev pub Kept : Tree → Tree → Type 0
+Kept t u = node_room u ≡ node_room t
 
 -- the table is the same one, and is kept
 pub record Grew (a b : Reader) : Type 0 where
@@ -78,6 +77,7 @@ pub record Ends (a b : Reader) : Type 0 where
   pub nest : b.nest ≡ a.nest
   pub tree : Grew a b
 
+-- `Gone`, `Lists`, `Took` and `Ends` relate two states of a reader, so they are clauses and no invariant of one.
 -- what a line does to a reader: its table is kept, whatever comes of it; and where the line is there, it is read
 pub record Gone {X : Type 0} (a b : Reader) (r : Result X Refused) : Type 0 where
   pub tree : Grew a b

@@ -41,6 +41,7 @@ pub struct Param {
 // declared, and its place. `count`: a call's args, a routine's parameters, a block's slots.
 // `slot`: the offset of a datum or routine in its block. `routines` and `commands`: how many nodes these
 // parts of a block have. `params`: the first nine parameters of a routine.
+// One record for every label, and an array for the parameters: the host lends the nodes, and there is no heap here.
 #[derive(Clone, Copy, PartialEq, Eq, Debug)]
 pub struct Info {
     pub label: Label,

@@ -21,7 +21,7 @@ fn read_rule(text: &[u8], tree: &mut Tree) -> Result<(), Refused>
         tree,
     };
     let read = reader.rule();
-    // The tree is taken out: what else it holds would hide from a proof what the reader leaves of it.
+    // The reader is taken apart here, so that what it left in the tree is known.
     let _tree = reader.tree;
     read
 }

@@ -1,3 +1,5 @@
+ghost use Rattle.std.specs.Prelude.{◌≤◌, length};
+
 use crate::node::{BLANK, Node};
 use lang::refusal::Refusal;
 
@@ -10,10 +12,12 @@ pub const MOST_NODES: usize = 4096;
 pub struct Tree<'m> {
     nodes: &'m mut [Node],
     used: usize,
+    ghost room: { 4096 ≤ length nodes.now },
+    ghost few: { used ≤ 4097 },
 }
 
 impl<'m> Tree<'m> {
-    ghost use Rattle.std.specs.Prelude.{◌≡◌, true, false, length, replicate, MatchResult, nat_lt, slice_index_or};
+    ghost use Rattle.std.specs.Prelude.{◌≡◌, true, false, replicate, MatchResult, nat_lt, slice_index_or};
     ghost use Rattle.lang.specs.Refusals.{number};
     ghost use Rattle.reader.specs.Nodes.{blank, nodes_of, node_room, Added};
 
@@ -48,7 +52,7 @@ impl<'m> Tree<'m> {
         ensures { Added self.old node self.new }
     {
         let at = self.used;
-        if at < self.nodes.len() && at < MOST_NODES {
+        if at < MOST_NODES {
             self.nodes[at] = node;
         }
         if at <= MOST_NODES {

@@ -26,8 +26,8 @@ pub struct Word<'t> {
 // What stands at the front of some bytes: a word's kind and its length, or nothing but a byte that parts words.
 type Front = Result<Option<(Kind, usize)>, Refusal>;
 
-// How many bytes of a name stand at the front. One function for this and `number_len` would be no plainer: its
-// clause would speak of every test.
+// How many bytes of a name stand at the front. One function for this and `number_len`, with the test as its
+// parameter, was tried: its clause, `prefix_len` of what the test answers, stayed open.
 fn name_len(text: &[u8]) -> usize
     ensures { result ≡ prefix_len name_byte text.now }
 {

@@ -14,7 +14,7 @@ use Rattle.translate.specs.Rooms.{SameRoom}
 
 -- the zero record
 abbrev pub no_record : Record
-no_record = Known (record { bytes = replicate 16 0 }) Constant 0 0
+no_record = Known (record { bytes = replicate 16 0 }) (record { sort = Constant; level = 0; offset = 0 })
 
 -- a refusal leaves the code as it was; else the length of the new code is answered
 abbrev pub Answers : Result ℕ Refused → Code → Code → Type 0

@@ -10,7 +10,8 @@ use Rattle.translate.specs.declared.checked.write.Writer.{Writer}
 abbrev pub SameRoom : Code → Code → Type 0
 SameRoom a b = (code_room b ≡ code_room a) × (place_room b ≡ place_room a)
 
--- a scope keeps its names in the same memory
+-- a scope keeps its names in the same memory: a relation of two states, so each method states it by this one name,
+-- since a ghost field can speak of only one state
 abbrev pub KeepsNames : Scope → Scope → Type 0
 KeepsNames a b = (b.names.ghost_name ≡ a.names.ghost_name) × (room b.names.now ≡ room a.names.now)
 

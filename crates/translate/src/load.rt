@@ -31,7 +31,7 @@ fn load_text(
 }
 
 // From a text to code over a sheet: the code's length, or the refusal, which leaves the code as it was. The memory for
-// nodes and names is zero afterwards.
+// nodes and names is zero afterwards. Five parameters, since the host lends each memory apart and keeps it.
 pub fn load(
     text: &[u8],
     sheet: &Sheet,

@@ -9,7 +9,7 @@ fn among(tree: &Tree, routines: Nodes, name: Name) -> Option<Sort> {
     let mut rest = routines;
     while let Some((_, before)) = rest.split_last(tree) {
         if let Some(routine) = routine_below(tree, rest.end)
-            && name == routine.name
+            && name == routine.named.name
         {
             first = Some(routine.sort());
         }
@@ -21,16 +21,7 @@ fn among(tree: &Tree, routines: Nodes, name: Name) -> Option<Sort> {
 // What a record says of a name.
 pub fn in_record(tree: &Tree, record: Record, name: Name) -> Option<Found> {
     match record {
-        Record::Known {
-            name: known,
-            sort,
-            level,
-            offset,
-        } => (name == known).then_some(Found {
-            sort,
-            level,
-            offset,
-        }),
+        Record::Known { name: known, found } => (name == known).then_some(found),
         Record::Rest { level, start, end } => {
             let routines = Nodes {
                 start: start as usize,

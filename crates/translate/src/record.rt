@@ -37,24 +37,7 @@ impl From<Binding> for Sort {
     }
 }
 
-// A visible name, or the routines of a block that has more names than are kept one by one.
-// `level` counts the frames outside the one that has the name.
-#[derive(Clone, Copy, PartialEq, Eq, Debug)]
-pub enum Record {
-    Known {
-        name: Name,
-        sort: Sort,
-        level: u8,
-        offset: u8,
-    },
-    Rest {
-        level: u8,
-        start: u16,
-        end: u16,
-    },
-}
-
-// What a use means.
+// What a use means. `level` counts the frames outside the one that has the name.
 #[derive(Clone, Copy, PartialEq, Eq, Debug)]
 pub struct Found {
     pub sort: Sort,
@@ -62,10 +45,20 @@ pub struct Found {
     pub offset: u8,
 }
 
+// A visible name, or the routines of a block that has more names than are kept one by one.
+// `start` and `end` are a list of nodes, in 16 bits each, since a record stands in memory that the host lends.
+#[derive(Clone, Copy, PartialEq, Eq, Debug)]
+pub enum Record {
+    Known { name: Name, found: Found },
+    Rest { level: u8, start: u16, end: u16 },
+}
+
 // The zero record.
 pub const NO_RECORD: Record = Record::Known {
     name: Name { bytes: [0; 16] },
-    sort: Sort::Constant,
-    level: 0,
-    offset: 0,
+    found: Found {
+        sort: Sort::Constant,
+        level: 0,
+        offset: 0,
+    },
 };

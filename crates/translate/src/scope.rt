@@ -9,6 +9,7 @@ use lang::narrow::{byte, short};
 use lang::refusal::{Refusal, Refused};
 use lang::sheet::Sheet;
 use lang::stack::Stack;
+use reader::node::Param;
 use reader::tree::Tree;
 
 // The most names of a block, and the most parameters of a routine.
@@ -39,11 +40,9 @@ impl Scope<'_, '_, '_, '_> {
 
     // The innermost visible declaration of a name, and in its frame the first.
     pub fn look_up(&self, name: Name) -> Option<Found> {
-        let mut found = None;
-        for record in self.names.as_slice() {
-            found = inner(found, in_record(self.tree, *record, name));
-        }
-        found
+        self.names.as_slice().iter().fold(None, |found, record| {
+            inner(found, in_record(self.tree, *record, name))
+        })
     }
 
     // The hops and the offset of a name. A checked name is always found.
@@ -82,20 +81,21 @@ impl Scope<'_, '_, '_, '_> {
     pub fn push(&mut self, name: Name, sort: Sort, slot: usize)
         ensures { KeepsNames self.old self.new }
     {
-        let level = self.level();
-        // there is room: of each frame at most 64 names are kept one by one
-        let _ = self.names.push(Record::Known {
-            name,
+        let found = Found {
             sort,
-            level,
+            level: self.level(),
             offset: byte(slot),
-        });
+        };
+        // there is room: of each frame at most 64 names are kept one by one
+        let _ = self.names.push(Record::Known { name, found });
     }
 
-    // The names of the sheet.
-    pub fn push_sheet(&mut self, sheet: &Sheet)
+    // The names of the sheet, and no others: where a text starts. A constructor that takes the sheet was tried: after it,
+    // a proof did not know what the scope's `&mut` left in the names (their room stayed open), as it does of a literal.
+    pub fn start(&mut self, sheet: &Sheet)
         ensures { KeepsNames self.old self.new }
     {
+        self.names.clear();
         for (i, entry) in sheet.entries().iter().enumerate() {
             self.push(entry.name, Sort::from(entry.mark), i);
         }
@@ -106,24 +106,23 @@ impl Scope<'_, '_, '_, '_> {
     // violation.
     pub fn declare(
         &mut self,
-        name: Name,
+        named: Param,
         sort: Sort,
         slot: usize,
         most: usize,
-        at: u16,
     ) -> Result<(), Refused>
         ensures { KeepsNames self.old self.new }
     {
         if slot > most {
             return Ok(());
         }
-        if self.in_frame(name) {
-            return Err(Refusal::NameTwice.at(at));
+        if self.in_frame(named.name) {
+            return Err(Refusal::NameTwice.at(named.at));
         }
         if slot == most {
-            return Err(Refusal::TooManyNames.at(at));
+            return Err(Refusal::TooManyNames.at(named.at));
         }
-        self.push(name, sort, slot);
+        self.push(named.name, sort, slot);
         Ok(())
     }
 
@@ -135,7 +134,7 @@ impl Scope<'_, '_, '_, '_> {
         let count = routine.count as usize;
         let mut least = None;
         for (i, p) in params.iter().take(count).enumerate() {
-            let declared = self.declare(p.name, Sort::Constant, i, MOST_PARAMS, p.at);
+            let declared = self.declare(*p, Sort::Constant, i, MOST_PARAMS);
             least = lesser(least, declared.err());
         }
         least
@@ -151,7 +150,7 @@ impl Scope<'_, '_, '_, '_> {
             return least;
         };
         let slot = routine.slot as usize;
-        let declared = self.declare(routine.name, routine.sort(), slot, MOST_SLOTS, routine.at);
+        let declared = self.declare(routine.named, routine.sort(), slot, MOST_SLOTS);
         lesser(least, declared.err())
     }
 

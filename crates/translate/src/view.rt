@@ -5,7 +5,7 @@ use crate::record::Sort;
 use lang::instruction::{Binding, Instruction};
 use lang::name::Name;
 use lang::value::Value;
-use reader::node::{Info, Label};
+use reader::node::{Info, Label, Param};
 use reader::tree::Tree;
 
 // A list of nodes: those from the number `start` up to `end` and the nodes that they hold.
@@ -92,15 +92,15 @@ pub enum Command {
     },
 }
 
-// The last datum below a node number: where its own nodes start, and its expression's node.
+// The last datum below a node number: where its own nodes start, and its expression's node. `named` is the name that
+// it declares, and where that stands.
 #[derive(Clone, Copy, PartialEq, Eq, Debug)]
 pub struct Datum {
     pub start: usize,
     pub value: usize,
     pub binding: Binding,
     pub place: u16,
-    pub name: Name,
-    pub at: u16,
+    pub named: Param,
     pub slot: u16,
 }
 
@@ -119,8 +119,7 @@ pub struct Routine {
     pub body: usize,
     pub form: Form,
     pub place: u16,
-    pub name: Name,
-    pub at: u16,
+    pub named: Param,
     pub slot: u16,
     pub count: u16,
 }
@@ -134,7 +133,13 @@ pub fn last(tree: &Tree, end: usize) -> Option<(usize, usize)>
     (start < end).then_some((start, n))
 }
 
-// The last N nodes below a number, in order.
+// The number of the node that is the whole text.
+pub(crate) fn root(tree: &Tree) -> Option<usize> {
+    last(tree, tree.len()).map(|(_, n)| n)
+}
+
+// The last N nodes below a number, in order. By index, since a proof sees nothing of the array in a loop over
+// `iter_mut().rev()`: that form was tried, and its goal stayed open.
 fn below<const N: usize>(tree: &Tree, end: usize) -> Option<[usize; N]>
     ensures { FallsBelow end result }
 {
@@ -148,6 +153,7 @@ fn below<const N: usize>(tree: &Tree, end: usize) -> Option<[usize; N]>
     Some(nodes)
 }
 
+// Two, since an expression of one operand and one of two are different variants: no type or constant tells them apart.
 fn unary(tree: &Tree, n: usize, place: u16, op: Instruction) -> Option<Expr>
     ensures { FallsExpr n result }
 {
@@ -291,7 +297,15 @@ pub fn command_at(tree: &Tree, n: usize) -> Option<Command>
     }
 }
 
-// The last datum below a number.
+// The name that a declaration's node declares.
+fn declared_by(info: Info) -> Param {
+    Param {
+        name: info.name,
+        at: info.at,
+    }
+}
+
+// The last datum below a number. Not one function with `routine_below`: they end in different structs.
 pub fn datum_below(tree: &Tree, end: usize) -> Option<Datum>
     ensures { FallsDatum end result }
 {
@@ -307,8 +321,7 @@ pub fn datum_below(tree: &Tree, end: usize) -> Option<Datum>
         value,
         binding,
         place: info.place,
-        name: info.name,
-        at: info.at,
+        named: declared_by(info),
         slot: info.slot,
     })
 }
@@ -330,8 +343,7 @@ pub fn routine_below(tree: &Tree, end: usize) -> Option<Routine>
         body,
         form,
         place: info.place,
-        name: info.name,
-        at: info.at,
+        named: declared_by(info),
         slot: info.slot,
         count: info.count,
     })

@@ -160,6 +160,7 @@ impl<'m, F: BuildFrames + Drop> Machine<'m, F> {
                 Step::On
             }
             Err(Halt::Stuck) => Step::Stuck,
+            // a match, since with `map_or` the proof did not close: it could not name what the closure answers
             Err(Halt::Fault(fault)) => match code.place(at) {
                 Some(place) => Step::Stop { fault, place },
                 None => Step::Stuck, // each instruction has a place

@@ -19,7 +19,8 @@ fn move_args<F: BuildFrames + Drop>(
     frames: &mut F,
     count: u8,
 ) -> Option<()>
-    ensures { F.ReadFrames.sound frames.old → F.ReadFrames.sound frames.new × (room values.new ≡ room values.old) × (moved_by result (items values.new) (F.ReadFrames.frames frames.new) ≡ moved count (items values.old) (F.ReadFrames.frames frames.old)) }
+    ensures room { room values.new ≡ room values.old }
+    ensures moves { F.ReadFrames.sound frames.old → F.ReadFrames.sound frames.new × (moved_by result (items values.new) (F.ReadFrames.frames frames.new) ≡ moved count (items values.old) (F.ReadFrames.frames frames.old)) }
 {
     for offset in (0..count as usize).rev() {
         let v = values.pop()?;

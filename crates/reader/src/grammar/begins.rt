@@ -11,6 +11,7 @@ pub enum Line {
     Prefix,
 }
 
+// Three functions, since each is one expression, a set of kinds of its own: one for the three would be no plainer.
 // Whether a command can begin with a word of this kind.
 pub fn begins_command(kind: Kind) -> bool
     ensures { result ≡ begins_command kind }

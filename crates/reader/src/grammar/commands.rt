@@ -4,6 +4,7 @@ ghost use Rattle.reader.specs.Looking.{Gone, Lists, Grew};
 use crate::grammar::Reader;
 use crate::grammar::begins::Line;
 use crate::grammar::build::{named, plain, routine};
+use crate::grammar::declarations::Part;
 use crate::node::{Info, Label};
 use lang::refusal::Refused;
 use lang::word::Kind;
@@ -21,27 +22,19 @@ impl<'t, 'm> Reader<'t, 'm> {
         }
     }
 
-    // One of the three lines that nest.
+    // One of the three lines that nest: it is entered, read and left.
     #[cycle(lines)]
     pub fn line(&mut self, line: Line) -> Result<(), Refused>
         ensures { Gone self.old self.new result }
     {
         self.enter(line)?;
-        self.form(line)?;
+        match line {
+            Line::Command => self.command()?,
+            Line::Expr => self.expr()?,
+            Line::Prefix => self.prefix()?,
+        }
         self.leave();
         Ok(())
-    }
-
-    // What stands in it.
-    #[cycle(lines)]
-    fn form(&mut self, line: Line) -> Result<(), Refused>
-        ensures { Gone self.old self.new result }
-    {
-        match line {
-            Line::Command => self.command(),
-            Line::Expr => self.expr(),
-            Line::Prefix => self.prefix(),
-        }
     }
 
     // command: block | assignment | call | if | while
@@ -121,9 +114,9 @@ impl<'t, 'm> Reader<'t, 'm> {
     {
         let start = self.start();
         self.expect(Kind::OpenBrace)?;
-        let data = self.data()?;
+        let data = self.declared(Part::Data, 0)?;
         let first_routine = self.tree.len();
-        let count = self.routines(data)?;
+        let count = self.declared(Part::Routines, data)?;
         let routines = self.nodes_since(first_routine);
         let first_command = self.tree.len();
         self.commands()?;
@@ -139,31 +132,9 @@ impl<'t, 'm> Reader<'t, 'm> {
         Ok(())
     }
 
-    // routine..: how many slots there are with these.
-    #[cycle(lines)]
-    fn routines(&mut self, data: u16) -> Result<u16, Refused>
-        ensures { Lists self.old self.new result }
-    {
-        let mut slot = data;
-        while let Some(label) = self.routine_word() {
-            self.routine(label, slot)?;
-            slot = slot.saturating_add(1);
-        }
-        Ok(slot)
-    }
-
-    // 'fun' or 'proc', if one of them stands here.
-    fn routine_word(&self) -> Option<Label> {
-        match self.kind()? {
-            Kind::Fun => Some(Label::Fun),
-            Kind::Proc => Some(Label::Proc),
-            _ => None,
-        }
-    }
-
     // routine: 'fun' name '(' names ')' '=' expr ';' | 'proc' name '(' names ')' command
     #[cycle(lines)]
-    fn routine(&mut self, label: Label, slot: u16) -> Result<(), Refused>
+    pub fn routine(&mut self, label: Label, slot: u16) -> Result<(), Refused>
         ensures { Gone self.old self.new result }
     {
         let start = self.start();

@@ -8,26 +8,46 @@ use crate::node::{Info, Label};
 use lang::refusal::Refused;
 use lang::word::Kind;
 
+// The declarations of a block, in their order.
+#[derive(Clone, Copy, PartialEq, Eq, Debug)]
+pub enum Part {
+    Data,
+    Routines,
+}
+
 impl<'t, 'm> Reader<'t, 'm> {
-    // datum..: how many there are.
+    // datum.. or routine..: the number of the slot behind them.
     #[cycle(lines)]
-    pub fn data(&mut self) -> Result<u16, Refused>
+    pub fn declared(&mut self, part: Part, first: u16) -> Result<u16, Refused>
         ensures { Lists self.old self.new result }
     {
-        let mut slot: u16 = 0;
-        while let Some(label) = self.datum_word() {
-            self.datum(label, slot)?;
+        let mut slot = first;
+        while let Some(label) = self.declares(part) {
+            self.declaration(part, label, slot)?;
             slot = slot.saturating_add(1);
         }
         Ok(slot)
     }
 
-    // 'const' or 'var', if one of them stands here.
-    fn datum_word(&self) -> Option<Label> {
-        match self.kind()? {
-            Kind::Const => Some(Label::Const),
-            Kind::Var => Some(Label::Var),
+    // What is declared here, if a declaration of the part stands here.
+    fn declares(&self, part: Part) -> Option<Label> {
+        match (part, self.kind()?) {
+            (Part::Data, Kind::Const) => Some(Label::Const),
+            (Part::Data, Kind::Var) => Some(Label::Var),
+            (Part::Routines, Kind::Fun) => Some(Label::Fun),
+            (Part::Routines, Kind::Proc) => Some(Label::Proc),
             _ => None,
+        }
+    }
+
+    // datum or routine
+    #[cycle(lines)]
+    fn declaration(&mut self, part: Part, label: Label, slot: u16) -> Result<(), Refused>
+        ensures { Gone self.old self.new result }
+    {
+        match part {
+            Part::Data => self.datum(label, slot),
+            Part::Routines => self.routine(label, slot),
         }
     }
 

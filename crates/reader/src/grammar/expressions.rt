@@ -93,7 +93,7 @@ impl<'t, 'm> Reader<'t, 'm> {
             Kind::True => Ok(Label::Truth(true)),
             Kind::False => Ok(Label::Truth(false)),
             Kind::Number => value(word.bytes)
-                .map(|number| Label::Number(number))
+                .map(Label::Number)
                 .ok_or(self.refused(Refusal::NumberTooLarge)),
             _ => Err(self.unexpected()),
         }

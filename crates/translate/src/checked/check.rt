@@ -6,7 +6,7 @@ use crate::checked::Checked;
 use crate::record::{Record, Sort};
 use crate::scope::{MOST_SLOTS, Outer, Scope};
 use crate::view::{
-    Command, Expr, Form, Nodes, command_at, datum_below, expr_at, last, routine_below,
+    Command, Expr, Form, Nodes, command_at, datum_below, expr_at, root, routine_below,
 };
 use crate::violation::{Use, lesser};
 use lang::name::Name;
@@ -33,28 +33,24 @@ pub fn check<'a, 'm>(
 ) -> Result<Checked<'a, 'm>, Refused>
     ensures { room names.new ≡ room names.old }
 {
-    names.clear();
     let mut scope = Scope {
         tree,
         names,
         depth: 1,
     };
-    scope.push_sheet(sheet);
-    let least = violation(&mut scope);
+    scope.start(sheet);
+    let judged = sound(&mut scope);
     names.clear();
-    match least {
-        Some(refused) => Err(refused),
-        None => Ok(Checked { tree }),
-    }
+    judged.map(|()| Checked { tree })
 }
 
-// The least violation of the command that is the whole text.
-fn violation(scope: &mut Scope) -> Option<Refused>
+// Whether the command that is the whole text has no violation; else the least.
+fn sound(scope: &mut Scope) -> Result<(), Refused>
     ensures { KeepsNames scope.old scope.new }
 {
     let mut checker = Checker { scope, least: None };
     checker.check_rule();
-    checker.least
+    checker.least.map_or(Ok(()), Err)
 }
 
 impl Checker<'_, '_, '_, '_, '_> {
@@ -136,7 +132,9 @@ impl Checker<'_, '_, '_, '_, '_> {
     }
 
     // A list is checked in order and can be stepped through only from its end back: with no heap to turn it round in, by
-    // recursion. Each kind of list has its own, since one for all would switch on which step to run.
+    // recursion. Each kind of list has its own: one for all that takes the step, and a trait with these as its bodies, were
+    // tried, and neither gets a proof, as functions in a cycle must have the same type parameters, and no body of a trait
+    // may call itself.
     #[cycle(expression_checks)]
     fn check_args(&mut self, args: Nodes)
         ensures { CheckerKeeps self.old self.new }
@@ -167,9 +165,7 @@ impl Checker<'_, '_, '_, '_, '_> {
         self.check_expr(datum.value);
         let slot = datum.slot as usize;
         let sort = Sort::from(datum.binding);
-        let declared = self
-            .scope
-            .declare(datum.name, sort, slot, MOST_SLOTS, datum.at);
+        let declared = self.scope.declare(datum.named, sort, slot, MOST_SLOTS);
         self.note(declared.err());
     }
 
@@ -270,9 +266,8 @@ impl Checker<'_, '_, '_, '_, '_> {
     fn check_rule(&mut self)
         ensures { CheckerKeeps self.old self.new }
     {
-        let tree = self.scope.tree;
-        if let Some((_, root)) = last(tree, tree.len()) {
-            self.check_command(root);
+        if let Some(n) = root(self.scope.tree) {
+            self.check_command(n);
         }
     }
 }

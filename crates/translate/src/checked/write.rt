@@ -7,7 +7,7 @@ use crate::checked::Checked;
 use crate::record::{Record, Sort};
 use crate::scope::{MOST_SLOTS, Scope};
 use crate::view::{
-    Command, Expr, Form, Nodes, Routine, command_at, datum_below, expr_at, last, routine_below,
+    Command, Expr, Form, Nodes, Routine, command_at, datum_below, expr_at, root, routine_below,
 };
 use lang::code::Code;
 use lang::instruction::{Binding, Instruction};
@@ -33,14 +33,13 @@ pub fn translate(
     ensures code { SameRoom code.old code.new }
     ensures length { result ≡ length (instructions_of code.new) }
 {
-    names.clear();
     code.clear();
     let mut scope = Scope {
         tree: checked.tree,
         names,
         depth: 1,
     };
-    scope.push_sheet(sheet);
+    scope.start(sheet);
     write(&mut scope, code);
     names.clear();
     code.len()
@@ -157,7 +156,9 @@ impl Writer<'_, '_, '_, '_, '_, '_, '_> {
     }
 
     // A list is written in order and can be stepped through only from its end back: with no heap to turn it round in, by
-    // recursion. Each kind of list has its own, since one for all would switch on which step to run.
+    // recursion. Each kind of list has its own: one for all that takes the step, and a trait with these as its bodies, were
+    // tried, and neither gets a proof, as functions in a cycle must have the same type parameters, and no body of a trait
+    // may call itself.
     #[cycle(expression_code)]
     fn write_args(&mut self, args: Nodes)
         ensures { WriterKeeps self.old self.new }
@@ -195,9 +196,7 @@ impl Writer<'_, '_, '_, '_, '_, '_, '_> {
             datum.place,
         );
         let sort = Sort::from(datum.binding);
-        let _ = self
-            .scope
-            .declare(datum.name, sort, slot, MOST_SLOTS, datum.at);
+        let _ = self.scope.declare(datum.named, sort, slot, MOST_SLOTS);
     }
 
     // The command at a node.
@@ -328,9 +327,8 @@ impl Writer<'_, '_, '_, '_, '_, '_, '_> {
     fn write_rule(&mut self)
         ensures { WriterKeeps self.old self.new }
     {
-        let tree = self.scope.tree;
-        if let Some((_, root)) = last(tree, tree.len()) {
-            self.write_command(root);
+        if let Some(n) = root(self.scope.tree) {
+            self.write_command(n);
         }
     }
 }

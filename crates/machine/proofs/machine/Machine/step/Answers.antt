@@ -26,8 +26,7 @@ returns-in-Ok g c =
       λ ps h r.
           let s = some_held _ ps m.at what h (sym c.in-Some.ensures) in
           let d = c.in-Ok.ensures.1 r in
-          let ready = d.0 in
-          (record { value_room = ready.value_room; return_room = ready.return_room; well = ready.well }, step_of g.F.ReadFrames.frames ps _ m what s.0 _ c.in-Some-new.ensures s.1 (d.1 s.0), tt),
+          (record { well = d.0.well }, step_of g.F.ReadFrames.frames ps _ m what s.0 _ c.in-Some-new.ensures s.1 (d.1 s.0), tt),
     )
 
 pub returns-in-Err-Stuck : goal.returns-in-Err-Stuck

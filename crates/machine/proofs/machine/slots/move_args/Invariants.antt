@@ -5,5 +5,6 @@ use Rattle.machine.proofs.machine.slots.move_args.Given as goal
 
 abbrev pub invariant-loop-offset : goal.invariant-loop-offset
 invariant-loop-offset g l =
-    g.F.ReadFrames.sound l.initial.frames → g.F.ReadFrames.sound l.frames × (room l.values ≡ room l.initial.values)
-    × (moved l.offset (items l.values) (g.F.ReadFrames.frames l.frames) ≡ moved l.count (items l.initial.values) (g.F.ReadFrames.frames l.initial.frames))
+    (room l.values ≡ room l.initial.values)
+    × (g.F.ReadFrames.sound l.initial.frames → g.F.ReadFrames.sound l.frames
+    × (moved l.offset (items l.values) (g.F.ReadFrames.frames l.frames) ≡ moved l.count (items l.initial.values) (g.F.ReadFrames.frames l.initial.frames)))

@@ -60,23 +60,23 @@ decreases-commands l = 18 * unread l.self.now + 4
 abbrev pub decreases-compared : goal.decreases-compared
 decreases-compared l = 18 * unread l.self.now + 0
 
-abbrev pub decreases-data : goal.decreases-data
-decreases-data l = 18 * unread l.self.now + 1
-
 abbrev pub decreases-datum : goal.decreases-datum
 decreases-datum l = 18 * unread l.self.now + 0
 
+abbrev pub decreases-declaration : goal.decreases-declaration
+decreases-declaration l = 18 * unread l.self.now + 1
+
+abbrev pub decreases-declared : goal.decreases-declared
+decreases-declared l = 18 * unread l.self.now + 2
+
 abbrev pub decreases-expr : goal.decreases-expr
 decreases-expr l = 18 * unread l.self.now + 14
-
-abbrev pub decreases-form : goal.decreases-form
-decreases-form l = 18 * unread l.self.now + in_line l.line
 
 abbrev pub decreases-grouped : goal.decreases-grouped
 decreases-grouped l = 18 * unread l.self.now + (at_level l.level + 1)
 
 abbrev pub decreases-line : goal.decreases-line
-decreases-line l = 18 * unread l.self.now + (in_line l.line + 1)
+decreases-line l = 18 * unread l.self.now + in_line l.line
 
 abbrev pub decreases-named_atom : goal.decreases-named_atom
 decreases-named_atom l = 18 * unread l.self.now + 0
@@ -89,9 +89,6 @@ decreases-repeat l = 18 * unread l.self.now + 0
 
 abbrev pub decreases-routine : goal.decreases-routine
 decreases-routine l = 18 * unread l.self.now + 0
-
-abbrev pub decreases-routines : goal.decreases-routines
-decreases-routines l = 18 * unread l.self.now + 1
 
 abbrev pub decreases-side : goal.decreases-side
 decreases-side l = 18 * unread l.self.now + at_level l.level
@@ -114,20 +111,14 @@ invariant-commands-loop-self l = Went l.initial.self l.self × Grew l.initial.se
 abbrev pub decreases-commands-loop-self : goal.decreases-commands-loop-self
 decreases-commands-loop-self l = unread l.self
 
-abbrev pub invariant-data-loop-label : goal.invariant-data-loop-label
-invariant-data-loop-label l = Went l.initial.self l.self × Grew l.initial.self l.self
+abbrev pub invariant-declared-loop-label : goal.invariant-declared-loop-label
+invariant-declared-loop-label l = Went l.initial.self l.self × Grew l.initial.self l.self
 
-abbrev pub decreases-data-loop-label : goal.decreases-data-loop-label
-decreases-data-loop-label l = unread l.self
+abbrev pub decreases-declared-loop-label : goal.decreases-declared-loop-label
+decreases-declared-loop-label l = unread l.self
 
 abbrev pub invariant-grouped-loop-label : goal.invariant-grouped-loop-label
 invariant-grouped-loop-label l = Went l.initial.self l.self × Grew l.initial.self l.self
 
 abbrev pub decreases-grouped-loop-label : goal.decreases-grouped-loop-label
 decreases-grouped-loop-label l = unread l.self
-
-abbrev pub invariant-routines-loop-label : goal.invariant-routines-loop-label
-invariant-routines-loop-label l = Went l.initial.self l.self × Grew l.initial.self l.self
-
-abbrev pub decreases-routines-loop-label : goal.decreases-routines-loop-label
-decreases-routines-loop-label l = unread l.self

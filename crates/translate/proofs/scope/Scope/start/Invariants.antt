@@ -1,5 +1,5 @@
 use Rattle.translate.specs.Rooms.{KeepsNames}
-use Rattle.translate.proofs.scope.Scope.push_sheet.Given as goal
+use Rattle.translate.proofs.scope.Scope.start.Given as goal
 
 abbrev pub invariant-loop-i : goal.invariant-loop-i
 invariant-loop-i l = KeepsNames l.initial.self l.self
