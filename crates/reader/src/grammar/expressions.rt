@@ -139,8 +139,8 @@ impl<'t, 'm> Reader<'t, 'm> {
         Ok(())
     }
 
-    // A comma list of expressions, up to its ')'; how many there are. One list for this and `names` would be no
-    // plainer: it would pass a closure through the cycle of lines.
+    // A comma list of expressions, up to its ')'; how many there are. One list for this and `names`, with a closure
+    // for the item, was tried: `FnMut(&mut Self)` names two lifetimes, and a call by such a bound is not proved yet.
     #[cycle(lines)]
     fn args(&mut self) -> Result<u16, Refused>
         ensures { Lists self.old self.new result }
