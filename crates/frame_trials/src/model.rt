@@ -157,6 +157,7 @@ impl Model {
     }
 }
 
+// The arms of a frame memory on trial once more: for one impl the model would have to be a frame memory, which it is not.
 impl Answers for Model {
     fn answer(&mut self, call: Call) -> Answer {
         match call {

@@ -57,6 +57,7 @@ impl Lent {
         })
     }
 
+    // This and the next differ in a type: one for both would have to name the trait of the links.
     fn chain(&mut self) -> Result<Chain<'_>, Refusal> {
         Chain::over(
             self.links.as_mut_slice(),

@@ -18,6 +18,7 @@ fn starting<'t>(sheet: &Sheet, table: &'t mut [Value; 32]) -> &'t [Value]
     ensures { result.now ≡ map (λ e. e.value) (entries_of sheet.now) }
 {
     let count = sheet.len(); // at most 32
+    // by number, since after `iter_mut().zip(..)` a proof knows nothing of the cells
     for (i, entry) in sheet.entries().iter().enumerate() {
         table[i] = entry.value;
     }
