@@ -2,7 +2,7 @@ use frames::memory::{BuildFrames, ReadFrames};
 use lang::value::Slot;
 
 // A call of a frame memory with its arguments.
-#[derive(Clone, Copy, Debug)]
+#[derive(Clone, Copy, PartialEq, Eq, Debug)]
 pub enum Call {
     Get(usize, usize),
     FrameCount,

@@ -70,7 +70,7 @@ impl Model {
         Some(number)
     }
 
-    // How many frames there are from this one outward.
+    // How many frames there are from this one outward, counted up to all frames, so that it ends whatever the links are.
     fn depth(&self, number: usize) -> usize {
         let mut outward = Some(number);
         let mut depth = 0usize;
@@ -157,7 +157,8 @@ impl Model {
     }
 }
 
-// The arms of a frame memory on trial once more: for one impl the model would have to be a frame memory, which it is not.
+// The arms of a frame memory on trial once more: for one impl the model would have to be a frame memory,
+// which it is not, so it would be no plainer.
 impl Answers for Model {
     fn answer(&mut self, call: Call) -> Answer {
         match call {

@@ -39,7 +39,7 @@ fn dirty_slots(heap: Global, count: usize) -> Result<Vec<Slot>, AllocError> {
     })
 }
 
-// Memory that a frame memory can be lent.
+// Memory that a frame memory can be lent, part by part.
 #[derive(Drop)]
 struct Lent {
     links: Vec<u16>,

@@ -4,7 +4,8 @@ ghost use Rattle.frames.specs.Frames.{Frames, none, count, total, got, width, op
 use lang::refusal::Refusal;
 use lang::value::Slot;
 
-// The reading half of a frame memory. A sound memory means a list of frames, oldest first.
+// The reading half of a frame memory. A sound memory means a list of frames, oldest first; `sound` is the interface's own
+// word, so each clause asks for it.
 pub trait ReadFrames {
     ghost sound: { Self → Type 0 };
 

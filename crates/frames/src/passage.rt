@@ -27,7 +27,7 @@ pub fn passage<F: BuildFrames>(
     Ok(read)
 }
 
-// A passage through a frame memory in what is lent.
+// A passage through a frame memory in what is lent, each part apart.
 pub fn passage_over<'m, L: Links<'m>>(
     links: &'m mut [u16],
     starts: &'m mut [u16],

@@ -96,6 +96,7 @@ impl<'m> FrameSlots<'m> {
         ensures fits { IfSome result (λ p. p < self.now.used) }
     {
         let (start, end) = self.bounds(frame)?;
+        // an `if`: a closure for the sum would be no plainer
         if offset < end - start {
             Some(start + offset)
         } else {

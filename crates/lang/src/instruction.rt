@@ -11,7 +11,8 @@ pub enum Binding {
     Variable,
 }
 
-// One instruction of the machine. `parts` of specs/Instructions.antt gives each case its number and operands.
+// One instruction of the machine. `parts` of specs/Instructions.antt gives each case its number and operands. `hops` and
+// `offset` are two operands of the code, so each stands for itself: a pair would be no plainer.
 #[derive(Clone, Copy, PartialEq, Eq, Debug)]
 pub enum Instruction {
     Push(Value),
@@ -43,7 +44,8 @@ pub enum Instruction {
 }
 
 impl Instruction {
-    // The instruction's number and its three operands, 0 where it has none. A method, since `From` would not name them.
+    // The instruction's number and its three operands, 0 where it has none. A method: `From` would
+    // not name them, and be no plainer.
     pub fn parts(self) -> [i64; 4]
         ensures { result ≡ parts_of self }
     {

@@ -1,7 +1,7 @@
 ghost use Rattle.std.specs.Prelude.{◌≡◌, min};
 
 // A count as a byte; the greatest where it is larger. Two functions: std has no bound by which one could name the
-// greatest value of its type.
+// greatest value of its type, and with that as a parameter one would be no plainer.
 pub fn byte(n: usize) -> u8
     ensures { result ≡ min n 255 }
 {

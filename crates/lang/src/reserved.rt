@@ -4,7 +4,8 @@ ghost use Rattle.lang.specs.Words.{reserved, command_word, block_word, expr_word
 use crate::name::same_bytes;
 use crate::word::Kind;
 
-// The reserved words of commands; any other run of bytes is a name.
+// The reserved words of commands; any other run of bytes is a name. Compared one by one, in all three functions: a
+// `match` on the literals was tried, and its default arm, some 20 cases, stayed open.
 fn command_word(bytes: &[u8]) -> Kind
     ensures { result ≡ command_word bytes.now }
 {

@@ -20,7 +20,8 @@ pub struct Entry {
     pub value: Value,
 }
 
-// The entries that a rule stands over: the first `count` of a table in the gate's own memory, numbered from 0.
+// The entries that a rule stands over, numbered from 0: the first `count` of a table in the gate's own memory, which is
+// fixed, so it is no `Vec`.
 #[derive(Clone, Copy)]
 pub struct Sheet {
     entries: [Entry; 32],

@@ -68,7 +68,8 @@ impl fmt::Display for Value {
 }
 
 impl Slot {
-    // The value that a slot holds, if it holds one. No `TryFrom`, which would want an error to name.
+    // The value that a slot holds, if it holds one. A `TryFrom` would want an error to
+    // name, and be no plainer.
     pub fn value(self) -> Option<Value>
         ensures { result ≡ value_in self }
     {

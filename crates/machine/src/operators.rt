@@ -36,7 +36,8 @@ fn ranged(z: i64) -> Result<Value, Fault>
         .map_err(|_| Fault::Range)
 }
 
-// Functions of their own, since inside `subtracted` and `multiplied` the proof that 64 bits hold the result did not close.
+// Functions of their own: inside `subtracted` and `multiplied` the proof that 64 bits hold the result did not close, and
+// `sum` stands as they do.
 
 fn sum(a: i32, b: i32) -> i64
     ensures { result ≡ a +ℤ b }

@@ -51,7 +51,7 @@ impl Owned {
     }
 }
 
-// The memory for frames from the heap.
+// The memory for frames from the heap, lent part by part.
 #[derive(Drop)]
 struct OwnedFrames {
     links: Vec<u16>,

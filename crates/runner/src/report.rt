@@ -3,7 +3,7 @@ use lang::sheet::Sheet;
 use machine::outcome::Ran;
 use std::alloc::{AllocError, Global};
 
-// The line of a refused text, here and in a listing.
+// The line of a refused text: one function, since a report and a listing both want it.
 pub fn refusal_line(heap: Global, refused: Refused) -> Result<String, AllocError> {
     format!(in heap; "{refused}\n")
 }

@@ -13,7 +13,7 @@ use lang::stack::Stack;
 use reader::reading::read;
 use reader::tree::Tree;
 
-// Reads, checks and translates a text.
+// Reads, checks and translates a text, with the five parameters of `load`.
 fn load_text(
     text: &[u8],
     sheet: &Sheet,

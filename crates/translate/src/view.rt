@@ -57,7 +57,7 @@ pub enum Expr {
     },
 }
 
-// A command's node likewise.
+// A command's node likewise. `Do` has `name` and `at` apart, since most uses want one alone: a pair would be no plainer.
 #[derive(Clone, Copy, PartialEq, Eq, Debug)]
 pub enum Command {
     Assign {
@@ -305,7 +305,8 @@ fn declared_by(info: Info) -> Param {
     }
 }
 
-// The last datum below a number. Not one function with `routine_below`: they end in different structs.
+// The last datum below a number. Not one function with `routine_below`: they end in different
+// structs, so it would be no plainer.
 pub fn datum_below(tree: &Tree, end: usize) -> Option<Datum>
     ensures { FallsDatum end result }
 {

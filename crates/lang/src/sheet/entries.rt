@@ -34,7 +34,8 @@ pub fn is_name(bytes: &[u8]) -> bool
     reserved_of(bytes) == Kind::Name
 }
 
-// The value that the host means by a kind and a number: two numbers, so no `TryFrom`.
+// The value that the host means by a kind and a number, which stay the host's numbers, since a bad one is refused. A
+// `TryFrom` of the pair would be no plainer.
 pub fn value_of(kind: u8, value: i64) -> Option<Value>
     ensures { result ≡ value_of kind value }
 {

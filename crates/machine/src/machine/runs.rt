@@ -89,7 +89,8 @@ impl<'m, F: BuildFrames + Drop> Machine<'m, F> {
         self.value_at(0, k)
     }
 
-    // What one instruction does; the position that it leads to.
+    // What one instruction does; the position that it leads to. A match: each case has operands of its own, so a table
+    // of closures would be no plainer.
     fn perform(&mut self, here: Position, what: Instruction) -> Result<usize, Halt>
         ensures { Did F.ReadFrames.sound F.ReadFrames.frames here.at self.old self.new result (act what) }
     {

@@ -22,6 +22,7 @@ fn move_args<F: BuildFrames + Drop>(
     ensures room { room values.new ≡ room values.old }
     ensures moves { F.ReadFrames.sound frames.old → F.ReadFrames.sound frames.new × (moved_by result (items values.new) (F.ReadFrames.frames frames.new) ≡ moved count (items values.old) (F.ReadFrames.frames frames.old)) }
 {
+    // by number, since the offset is what `put` is handed
     for offset in (0..count as usize).rev() {
         let v = values.pop()?;
         // the frame just entered has a slot for each arg

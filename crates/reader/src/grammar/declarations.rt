@@ -78,7 +78,7 @@ impl<'t, 'm> Reader<'t, 'm> {
         Ok(names)
     }
 
-    // A comma list of names, up to its ')'.
+    // A comma list of names, up to its ')'. One list for this and `args` was tried, see there.
     fn names(&mut self) -> Result<Params, Refused>
         ensures tree { self.new.tree ≡ self.old.tree }
         ensures read { OnOk result (Went self.old self.new) }

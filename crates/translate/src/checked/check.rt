@@ -262,7 +262,7 @@ impl Checker<'_, '_, '_, '_, '_> {
         self.scope.leave(outer);
     }
 
-    // The command that is the whole text.
+    // The command that is the whole text. Like `write_rule` but for the walk: one for both would be no plainer.
     fn check_rule(&mut self)
         ensures { CheckerKeeps self.old self.new }
     {
