@@ -10,7 +10,6 @@ use Rattle.frames.specs.Frames.{Frames}
 use Rattle.meaning.specs.Tree.{Place}
 use Rattle.meaning.specs.Translation.{Code}
 use Rattle.meaning.specs.Machine.{Machine as State, Next, go, stop, ended, stuck, after, fetched, step, goes}
-use Rattle.frames.specs.declared.memory.ReadFrames.{Ghosts}
 use Rattle.machine.specs.declared.machine.Machine.{Machine}
 use Rattle.machine.specs.Shows.{seen, seen_at}
 use Rattle.machine.specs.Runs.{Holds}
@@ -37,7 +36,7 @@ some_held c ps i x h e =
     ]
 
 -- what the machine does at its position i is its step
-pub step_of : {F : Type 0} {G : Ghosts F} (frames : F → Frames) (ps : Code) (i : ℕ) (m : Machine F G) (x : Instruction) (p : Place) (n : Next) → i ≡ m.at → slice_get ps m.at ≡ Some (x, p) → n ≡ fetched (Some (x, p)) (seen_at i frames m) → n ≡ step ps (seen frames m)
+pub step_of : {F : Type 0} (frames : F → Frames) (ps : Code) (i : ℕ) (m : Machine F) (x : Instruction) (p : Place) (n : Next) → i ≡ m.at → slice_get ps m.at ≡ Some (x, p) → n ≡ fetched (Some (x, p)) (seen_at i frames m) → n ≡ step ps (seen frames m)
 unfolding step
 step_of frames ps i m x p n q e d = d ∙ ap (λ j. fetched (Some (x, p)) (seen_at j frames m)) q ∙ ap (λ o. fetched o (seen frames m)) (sym e)
 

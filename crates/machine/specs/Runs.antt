@@ -11,7 +11,6 @@ use Rattle.machine.specs.declared.outcome.Step.TheVariants as how
 use Rattle.machine.specs.declared.outcome.Outcome.{Outcome}
 use Rattle.machine.specs.declared.outcome.Outcome.TheVariants as outcome
 use Rattle.machine.specs.declared.outcome.Ran.{Ran}
-use Rattle.frames.specs.declared.memory.ReadFrames.{Ghosts}
 use Rattle.machine.specs.declared.machine.Machine.{Machine}
 use Rattle.machine.specs.Shows.{seen, Ready}
 
@@ -47,7 +46,7 @@ Rests (how.Stop f p) ps a b = Unit {0}
 Rests how.Stuck ps a b = Unit {0}
 
 -- the machine was ready and did the step that the machine on paper does
-abbrev pub Steps : {F : Type 0} {G : Ghosts F} → (F → Type 0) → (F → Frames) → Code → Machine F G → Machine F G → Step → Type 0
+abbrev pub Steps : {F : Type 0} → (F → Type 0) → (F → Frames) → Code → Machine F → Machine F → Step → Type 0
 Steps sound frames c a b r = (ps : Paper) → Holds c ps → Ready sound a → Ready sound b × (stepped r (seen frames b) ≡ step ps (seen frames a)) × Rests r ps (seen frames a) (seen frames b)
 
 -- s steps on paper from a, of a budget of n: paused in b after n, at the code's end in b, or by a fault
@@ -58,5 +57,5 @@ Ends (outcome.Fault f p) s ps n a b = (goes ps n a ≡ stop f p (a.steps + s)) �
 Ends outcome.Stuck s ps n a b = goes ps n a ≡ stuck
 
 -- the machine was ready and did what the machine on paper does with this budget
-abbrev pub Runs : {F : Type 0} {G : Ghosts F} → (F → Type 0) → (F → Frames) → Code → ℕ → Machine F G → Machine F G → Ran → Type 0
+abbrev pub Runs : {F : Type 0} → (F → Type 0) → (F → Frames) → Code → ℕ → Machine F → Machine F → Ran → Type 0
 Runs sound frames c n a b r = (ps : Paper) → Holds c ps → Ready sound a → Ready sound b × Ends r.outcome r.steps ps n (seen frames a) (seen frames b)

@@ -13,19 +13,20 @@ use Rattle.meaning.specs.Operators.{Worked}
 use Rattle.meaning.specs.Machine.{Machine as State, Next, stop, stuck, on}
 use Rattle.machine.specs.declared.outcome.Halt.{Halt}
 use Rattle.machine.specs.declared.outcome.Halt.TheVariants as halt
-use Rattle.frames.specs.declared.memory.ReadFrames.{Ghosts}
 use Rattle.machine.specs.declared.machine.Machine.{Machine}
 
 -- the machine on paper that a machine in memory shows, over what its frame memory means
-abbrev pub seen : {F : Type 0} {G : Ghosts F} → (F → Frames) → Machine F G → State
+abbrev pub seen : {F : Type 0} → (F → Frames) → Machine F → State
 seen frames m = record { at = m.at; values = items m.values; returns = items m.returns; frames = frames m.frames; steps = m.steps }
 
--- the frame memory is sound; that there is room for every waiting value and return position stands in the type
-pub record Ready {F : Type 0} {G : Ghosts F} (sound : F → Type 0) (m : Machine F G) : Type 0 where
+-- there is room for every waiting value and return position, and the frame memory is sound
+pub record Ready {F : Type 0} (sound : F → Type 0) (m : Machine F) : Type 0 where
+  pub value_room : most_values ≤ room m.values
+  pub return_room : most_returns ≤ room m.returns
   pub well : sound m.frames
 
 -- the same with the machine at position i
-abbrev pub seen_at : {F : Type 0} {G : Ghosts F} → ℕ → (F → Frames) → Machine F G → State
+abbrev pub seen_at : {F : Type 0} → ℕ → (F → Frames) → Machine F → State
 seen_at i frames m = record { at = i; values = items m.values; returns = items m.returns; frames = frames m.frames; steps = m.steps }
 
 -- how an instruction at place p that leads nowhere ends a run
@@ -39,7 +40,7 @@ acted (Ok i) p m = on i m.values m
 acted (Err h) p m = halted h p m
 
 -- a machine that was ready did, at position i, what the machine on paper does by n, at whichever place, and counted nothing
-abbrev pub Did : {F : Type 0} {G : Ghosts F} → (F → Type 0) → (F → Frames) → ℕ → Machine F G → Machine F G → Result ℕ Halt → (Place → State → Next) → Type 0
+abbrev pub Did : {F : Type 0} → (F → Type 0) → (F → Frames) → ℕ → Machine F → Machine F → Result ℕ Halt → (Place → State → Next) → Type 0
 Did sound frames i a b r n = (b.steps ≡ a.steps) × (Ready sound a → Ready sound b × ((p : Place) → acted r p (seen frames b) ≡ n p (seen_at i frames a)))
 
 -- whatever a call at these operands answers by post is what f says

@@ -11,7 +11,6 @@ use Rattle.meaning.specs.Runs.{Outcome as End, done, faulty, Ending, meaning}
 use Rattle.machine.specs.declared.outcome.Outcome.{Outcome}
 use Rattle.machine.specs.declared.outcome.Outcome.TheVariants as outcome
 use Rattle.machine.specs.declared.outcome.Ran.{Ran}
-use Rattle.frames.specs.declared.memory.ReadFrames.{Ghosts}
 use Rattle.machine.specs.declared.machine.Machine.{Machine}
 use Rattle.machine.specs.Shows.{Ready}
 use Rattle.machine.specs.Runs.{Holds}
@@ -31,12 +30,12 @@ entries_left es (done fs) = fs
 entries_left es (faulty f p) = es
 
 -- a call over the entries es answered r and left the entries fs and the machine b, as the meaning e says
-pub record Meant {F : Type 0} {G : Ghosts F} (sound : F → Type 0) (frames : F → Frames) (e : Ending) (es fs : List Entry) (b : Machine F G) (r : Result Ran Refusal) : Type 0 where
+pub record Meant {F : Type 0} (sound : F → Type 0) (frames : F → Frames) (e : Ending) (es fs : List Entry) (b : Machine F) (r : Result Ran Refusal) : Type 0 where
   pub answer : r ≡ Ok (ran_of e)
   pub entries : fs ≡ entries_left es e.outcome
   pub ready : Ready sound b
   pub empty : frames b.frames ≡ none
 
 -- For every rule without violations over these entries: if the machine was ready and the code is the rule's, the call did what the rule means.
-abbrev pub Means : {F : Type 0} {G : Ghosts F} → (F → Type 0) → (F → Frames) → Code → List Entry → List Entry → Machine F G → Machine F G → Result Ran Refusal → Type 0
+abbrev pub Means : {F : Type 0} → (F → Type 0) → (F → Frames) → Code → List Entry → List Entry → Machine F → Machine F → Result Ran Refusal → Type 0
 Means sound frames c es fs a b r = (t : Command) → violations es t ≡ [] → Holds c (translated es t) → Ready sound a → Meant sound frames (meaning es t) es fs b r

@@ -1,6 +1,4 @@
 ghost use Rattle.std.specs.Prelude.{◌<◌, ◌≤◌};
-ghost use Rattle.lang.specs.Stacks.{room};
-ghost use Rattle.meaning.specs.Limits.{most_values, most_returns};
 
 use frames::memory::BuildFrames;
 use lang::stack::Stack;
@@ -13,7 +11,8 @@ const MOST_VALUES: usize = 512;
 const MOST_RETURNS: usize = 256;
 
 // A machine over any frame memory: the values that wait, the positions to return to, the frames,
-// the position of the next instruction, and the steps done. The code comes with each call.
+// the position of the next instruction, and the steps done. The code comes with each call. That the stacks have room is in
+// `Ready` and no ghost field: with one, no function could make a machine over a frame memory that it names.
 #[derive(Drop)]
 pub struct Machine<'m, F: BuildFrames + Drop> {
     values: Stack<'m, Value>,
@@ -21,8 +20,6 @@ pub struct Machine<'m, F: BuildFrames + Drop> {
     frames: F,
     at: usize,
     steps: u32,
-    ghost value_room: { most_values ≤ room values },
-    ghost return_room: { most_returns ≤ room returns },
 }
 
 // The position of the instruction that is being done. The one after it is a position of 16 bits too.

@@ -1,8 +1,13 @@
 use crate::case::Case;
 use crate::{examples, faults, grammar, names, words};
+use frames::chain::Chain;
+use lang::code::{Code, MOST_CODE};
+use lang::instruction::Instruction;
 use lang::refusal::Refused;
 use lang::sheet::Sheet;
-use machine::outcome::Ran;
+use lang::value::{Slot, Value};
+use machine::machine::Machine;
+use machine::outcome::{Outcome, Ran};
 use runner::example::example_sheet;
 use runner::listing::listing;
 use runner::owned::{judge_over_chain, judge_over_display};
@@ -116,5 +121,31 @@ fn listings(rt: HostRuntime) -> Result<(), Fail> {
     let ab = listing(heap, b"fee := let a = 1 in let b = 2 in a;", &sheet)?;
     let ba = listing(heap, b"fee := let b = 1 in let a = 2 in b;", &sheet)?;
     assert_eq!(rt; ab.as_str(), ba.as_str());
+    Ok(())
+}
+
+// Code that no rule has: its one instruction wants a value and none waits. The machine is over a frame memory that this
+// function names.
+#[test]
+fn a_stuck_step_is_not_counted(rt: HostRuntime) -> Result<(), Fail> {
+    let heap = rt.alloc();
+    let mut parents = vec![in heap; 0u16; 256]?;
+    let mut starts = vec![in heap; 0u16; 256]?;
+    let mut slots = vec![in heap; Slot::Unset; 2048]?;
+    let chain = Chain::over(&mut parents, &mut starts, &mut slots)?;
+    let mut values = vec![in heap; Value::Number(0); 512]?;
+    let mut returns = vec![in heap; 0u16; 256]?;
+    let mut machine = Machine::over(&mut values, &mut returns, chain)?;
+    let mut instructions = vec![in heap; Instruction::Back; MOST_CODE]?;
+    let mut places = vec![in heap; 0u16; MOST_CODE]?;
+    let mut code = Code::over(&mut instructions, &mut places)?;
+    code.emit(Instruction::Not, 7)?;
+    machine.begin(&[])?;
+    let ran = machine.run(&code, 10);
+    let stuck = Ran {
+        outcome: Outcome::Stuck,
+        steps: 0,
+    };
+    assert_eq!(rt; ran, stuck);
     Ok(())
 }

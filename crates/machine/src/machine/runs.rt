@@ -174,12 +174,18 @@ impl<'m, F: BuildFrames + Drop> Machine<'m, F> {
         ensures { Runs F.ReadFrames.sound F.ReadFrames.frames code.now budget self.old self.new result }
     {
         let before = self.steps;
-        for _ in 0..budget {
+        for done in 0..budget {
             let outcome = match self.step(code) {
                 Step::On => continue,
                 Step::Ended => Outcome::Done,
                 Step::Stop { fault, place } => Outcome::Fault { fault, place },
-                Step::Stuck => Outcome::Stuck,
+                // a step that cannot be done is none of those that were
+                Step::Stuck => {
+                    return Ran {
+                        outcome: Outcome::Stuck,
+                        steps: done,
+                    };
+                }
             };
             return Ran {
                 outcome,

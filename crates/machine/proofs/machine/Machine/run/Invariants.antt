@@ -6,8 +6,8 @@ use Rattle.machine.specs.Runs.{Holds}
 use Rattle.machine.proofs.machine.Machine.run.Given as goal
 
 -- so many steps on paper lead here
-abbrev pub invariant-loop : goal.invariant-loop
-invariant-loop g l =
-    (l.self.steps ≡ l.initial.self.steps + l.counter)
+abbrev pub invariant-loop-done : goal.invariant-loop-done
+invariant-loop-done g l =
+    (l.self.steps ≡ l.initial.self.steps + l.done)
     × ((ps : Code) → Holds l.code ps → Ready g.F.ReadFrames.sound l.initial.self → Ready g.F.ReadFrames.sound l.self
-    × (goes ps l.counter (seen g.F.ReadFrames.frames l.initial.self) ≡ go (seen g.F.ReadFrames.frames l.self)))
+    × (goes ps l.done (seen g.F.ReadFrames.frames l.initial.self) ≡ go (seen g.F.ReadFrames.frames l.self)))

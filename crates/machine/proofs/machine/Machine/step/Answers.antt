@@ -26,7 +26,7 @@ returns-in-Ok g c =
       λ ps h r.
           let s = some_held _ ps m.at what h (sym c.in-Some.ensures) in
           let d = c.in-Ok.ensures.1 r in
-          (record { well = d.0.well }, step_of g.F.ReadFrames.frames ps _ m what s.0 _ c.in-Some-new.ensures s.1 (d.1 s.0), tt),
+          (record { value_room = d.0.value_room; return_room = d.0.return_room; well = d.0.well }, step_of g.F.ReadFrames.frames ps _ m what s.0 _ c.in-Some-new.ensures s.1 (d.1 s.0), tt),
     )
 
 pub returns-in-Err-Stuck : goal.returns-in-Err-Stuck
