@@ -1,5 +1,4 @@
-use crate::judge::Memory;
-use crate::owned::Owned;
+use crate::owned::OwnedText;
 use crate::report::refusal_line;
 use crate::unjudged::Unjudged;
 use lang::code::Code;
@@ -20,17 +19,10 @@ fn lines(heap: Global, code: &Code) -> Result<String, AllocError> {
 
 // The code of a text over a sheet, a line for each instruction, or the line of its refusal.
 pub fn listing(heap: Global, text: &[u8], sheet: &Sheet) -> Result<String, Unjudged> {
-    let mut owned = Owned::new(heap)?;
-    let Memory {
-        nodes,
-        names,
-        instructions,
-        places,
-        ..
-    } = owned.lend();
-    let mut tree = Tree::over(nodes)?;
-    let mut records = Stack::over(names);
-    let mut code = Code::over(instructions, places)?;
+    let mut owned = OwnedText::new(heap)?;
+    let mut tree = Tree::over(&mut owned.nodes)?;
+    let mut records = Stack::over(&mut owned.names);
+    let mut code = Code::over(&mut owned.instructions, &mut owned.places)?;
     match load(text, sheet, &mut tree, &mut records, &mut code) {
         Err(refused) => Ok(refusal_line(heap, refused)?),
         Ok(_) => Ok(lines(heap, &code)?),

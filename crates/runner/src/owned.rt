@@ -14,40 +14,24 @@ use reader::tree::MOST_NODES;
 use std::alloc::{AllocError, Global};
 use translate::record::{NO_RECORD, Record};
 
-// The memory for one rule, but for its frames, from the heap.
+// The memory that one text is read, checked and translated in, from the heap.
 #[derive(Drop)]
-pub(crate) struct Owned {
-    nodes: Vec<Node>,
-    names: Vec<Record>,
-    instructions: Vec<Instruction>,
-    places: Vec<u16>,
-    values: Vec<Value>,
-    returns: Vec<u16>,
+pub(crate) struct OwnedText {
+    pub(crate) nodes: Vec<Node>,
+    pub(crate) names: Vec<Record>,
+    pub(crate) instructions: Vec<Instruction>,
+    pub(crate) places: Vec<u16>,
 }
 
-impl Owned {
+impl OwnedText {
     // Enough of each kind.
-    pub(crate) fn new(heap: Global) -> Result<Owned, AllocError> {
-        Ok(Owned {
+    pub(crate) fn new(heap: Global) -> Result<OwnedText, AllocError> {
+        Ok(OwnedText {
             nodes: vec![in heap; BLANK; MOST_NODES]?,
             names: vec![in heap; NO_RECORD; MOST_NAMES]?,
             instructions: vec![in heap; Instruction::Back; MOST_CODE]?,
             places: vec![in heap; 0u16; MOST_CODE]?,
-            values: vec![in heap; Value::Number(0); 512]?,
-            returns: vec![in heap; 0u16; 256]?,
         })
-    }
-
-    // All of it, to judge with.
-    pub(crate) fn lend(&mut self) -> Memory<'_> {
-        Memory {
-            nodes: &mut self.nodes,
-            names: &mut self.names,
-            instructions: &mut self.instructions,
-            places: &mut self.places,
-            values: &mut self.values,
-            returns: &mut self.returns,
-        }
     }
 }
 
@@ -77,8 +61,18 @@ fn judge_over<F: BuildFrames + Drop>(
     sheet: &mut Sheet,
     frames: F,
 ) -> Result<Result<Ran, Refused>, Unjudged> {
-    let mut owned = Owned::new(heap)?;
-    Ok(judge(text, sheet, owned.lend(), frames)?)
+    let mut owned = OwnedText::new(heap)?;
+    let mut values = vec![in heap; Value::Number(0); 512]?;
+    let mut returns = vec![in heap; 0u16; 256]?;
+    let memory = Memory {
+        nodes: &mut owned.nodes,
+        names: &mut owned.names,
+        instructions: &mut owned.instructions,
+        places: &mut owned.places,
+        values: &mut values,
+        returns: &mut returns,
+    };
+    Ok(judge(text, sheet, memory, frames)?)
 }
 
 // Judges a rule over a static chain. This and the next differ in a type: a generic function would have to name the
