@@ -44,7 +44,11 @@ impl<'m> Tree<'m> {
     pub fn node(&self, n: usize) -> Node
         ensures { result ≡ slice_index_or (nodes_of self.now) n blank }
     {
-        self.nodes.get(n).copied().unwrap_or(BLANK)
+        // a match: with `copied` and `unwrap_or` each call copied the node, and the zero record, twice
+        match self.nodes.get(n) {
+            Some(node) => *node,
+            None => BLANK,
+        }
     }
 
     // One node more. Past the 4,096th only that there are more is kept.

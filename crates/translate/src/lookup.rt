@@ -1,5 +1,5 @@
 use crate::record::{Found, Record, Sort};
-use crate::view::{Nodes, routine_below};
+use crate::view::{Nodes, routine_named};
 use lang::name::Name;
 use reader::tree::Tree;
 
@@ -7,12 +7,8 @@ use reader::tree::Tree;
 fn among(tree: &Tree, routines: Nodes, name: Name) -> Option<Sort> {
     let mut first = None;
     let mut rest = routines;
-    while let Some((_, before)) = rest.split_last(tree) {
-        if let Some(routine) = routine_below(tree, rest.end)
-            && name == routine.named.name
-        {
-            first = Some(routine.sort());
-        }
+    while let Some((n, before)) = rest.split_last(tree) {
+        first = routine_named(tree, n, name).or(first);
         rest = before;
     }
     first

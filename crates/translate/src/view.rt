@@ -334,10 +334,7 @@ pub fn routine_below(tree: &Tree, end: usize) -> Option<Routine>
     let (start, node) = last(tree, end)?;
     let (_, body) = last(tree, node)?;
     let info = tree.node(node).info;
-    let form = match info.label {
-        Label::Fun => Form::Function,
-        _ => Form::Procedure,
-    };
+    let form = form_of(info.label);
     Some(Routine {
         start,
         node,
@@ -350,14 +347,36 @@ pub fn routine_below(tree: &Tree, end: usize) -> Option<Routine>
     })
 }
 
+// The form of a routine, by its node's label.
+fn form_of(label: Label) -> Form {
+    match label {
+        Label::Fun => Form::Function,
+        _ => Form::Procedure,
+    }
+}
+
+impl Form {
+    // What a routine of this form with so many parameters declares its name as.
+    fn sort(self, count: u16) -> Sort {
+        match self {
+            Form::Function => Sort::Function(count),
+            Form::Procedure => Sort::Procedure(count),
+        }
+    }
+}
+
 impl Routine {
     // What it declares its name as.
     pub(crate) fn sort(self) -> Sort {
-        match self.form {
-            Form::Function => Sort::Function(self.count),
-            Form::Procedure => Sort::Procedure(self.count),
-        }
+        self.form.sort(self.count)
     }
+}
+
+// What the routine at a node declares, if that is its name. The node alone is read: a whole `Routine` looks at its body
+// too, and this is asked of every routine of a block that has too many names, for each use.
+pub(crate) fn routine_named(tree: &Tree, n: usize, name: Name) -> Option<Sort> {
+    let info = tree.node(n).info;
+    (info.name == name).then_some(form_of(info.label).sort(info.count))
 }
 
 impl Nodes {

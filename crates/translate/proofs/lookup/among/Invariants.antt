@@ -1,4 +1,4 @@
 use Rattle.translate.proofs.lookup.among.Given as goal
 
-abbrev pub decreases-loop-before : goal.decreases-loop-before
-decreases-loop-before l = l.rest.end
+abbrev pub decreases-loop-n : goal.decreases-loop-n
+decreases-loop-n l = l.rest.end
