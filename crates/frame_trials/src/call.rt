@@ -30,7 +30,7 @@ pub trait Answers {
 }
 
 // The answer of a call that may be refused.
-pub fn answered<T: Drop, E: Into<u8> + Drop, F: FnOnce(T) -> Answer + Drop>(
+pub(crate) fn answered<T: Drop, E: Into<u8> + Drop, F: FnOnce(T) -> Answer + Drop>(
     res: Result<T, E>,
     holds: F,
 ) -> Answer
